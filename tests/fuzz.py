@@ -5,6 +5,7 @@ import json
 import os
 import pathlib
 import random
+import re
 import sys
 import tempfile
 import time
@@ -140,6 +141,10 @@ def try_trace(case, shared, outcome):
     viewed = case.run("view", "case.afx", "case.trace", *case.options)
     if viewed.status or viewed.out != table(held.decode().splitlines()[1:]):
         raise Differs("the table of a trace")
+    pathlib.Path("old.trace").write_bytes(in_format_one(held))
+    upgraded = case.run("view", "case.afx", "old.trace", *case.options, "--upgrade", "new.trace")
+    if upgraded.key() != viewed.key() or pathlib.Path("new.trace").read_bytes() != held:
+        raise Differs("a trace of format 1, upgraded")
     numbers = case.run("view", "case.afx", "case.trace", *case.options, "--summary").out.decode()
     if outcome.status == 0:
         cost = case.run("cost", "case.afx", *shared).out.decode()
@@ -153,6 +158,12 @@ def try_trace(case, shared, outcome):
         raise Differs("the table of a changed trace")
     if viewed.status and not viewed.err.startswith((b"J1 line ", b"illegal at event ", b"not UTF-8 ")):
         raise Differs("the refusal of a changed trace")
+
+
+def in_format_one(trace):
+    """The lines of a trace of format 2 in format 1."""
+    header, events = trace.split(b"\n", 1)
+    return header.replace(b'"format":2', b'"format":1') + b"\n" + re.sub(rb'"faults":\d+,', b"", events)
 
 
 def number_in(text, name):

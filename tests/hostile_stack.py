@@ -73,7 +73,8 @@ def try_deep_texts(tests, left_out):
         told = f"{SMALL_STACK // 1024} KB of stack, {name}: {' '.join(way)}"
         tests.judge(told, None if good else str(ended))
         if "--trace" in options and good:
-            for more in ([], ["--summary"], ["--svg", "deep.svg"], ["--chrome", "deep.json"], ["--html", "deep.html"]):
+            for more in ([], ["--summary"], ["--svg", "deep.svg"], ["--chrome", "deep.json"], ["--html", "deep.html"],
+                         ["--upgrade", "upgraded.trace"]):
                 ended = tests.run("view", file, "deep.trace", *more, **given)
                 tests.judge(f"{told}; view {' '.join(more)}", None if ended.status == 0 else str(ended))
 
@@ -145,7 +146,8 @@ def long_traces(tests):
         words = ["run", "path.afx", "--nest", "1000", "--workers", workers, "--trace", trace]
         tests.run(*words)
         yield words[:-1] + ["again.trace"], 0, "7\n"
-        for options in ([], ["--summary"], ["--svg", "path.svg"], ["--chrome", "path.json"], ["--html", "path.html"]):
+        for options in ([], ["--summary"], ["--svg", "path.svg"], ["--chrome", "path.json"], ["--html", "path.html"],
+                        ["--upgrade", "upgraded.trace"]):
             yield ["view", "path.afx", trace, *options], 0, None
     many = 100_000 if tests.end else 1_000_000
     row = tests.file("long_row.afx", row_of(many))

@@ -251,6 +251,7 @@ def cases_of(name, text, given, shared, alone):
     yield Case(name, ["view", file, trace, *options, "--summary", "--by-line"])
     yield Case(name, ["view", file, trace, *options, "--svg", "new.svg"], "new.svg")
     yield Case(name, ["view", file, trace, *options, "--html", "new.html"], "new.html")
+    yield Case(name, ["view", file, trace, *options, "--upgrade", "upgraded.trace"], "upgraded.trace")
     yield Case(name, ["explore", file, *options, "--html", "new.html"], "new.html")
 
 
