@@ -14,12 +14,14 @@ use Rattle.serde_json.specs.declared.value.Value.{Value, Array}
 use Rattle.serde_json.proofs.Views.{view-Array}
 use Rattle.syntax.specs.declared.place.TextPlace.{TextPlace}
 use Rattle.cost.specs.declared.cost.Cost.{Cost}
+use Rattle.trace_numbers.specs.Faults.{Gathered}
+use Rattle.trace_numbers.specs.Tables.{gathered}
 use Rattle.trace_numbers.specs.declared.summary.TraceSummary.{TraceSummary}
 use Rattle.commands.specs.declared.statements.NamedStatements.{NamedStatements}
 use Rattle.json_answers.specs.Pieces.{list_by, natural, object_of}
 use Rattle.json_answers.specs.Statements.{list_of, members_with, numbered, share_json, share_members, shares_json, statement_json}
 use Rattle.json_answers.specs.Statements.{statement_members, statements_json, statements_members, text_json}
-use Rattle.json_answers.specs.Summaries.{summary_json, summary_members}
+use Rattle.json_answers.specs.Summaries.{finish_json, finish_members, summary_json, summary_members}
 use Rattle.json_answers.proofs.NoFloats.{HasNoFloat, list_has_none, natural_has_none, object_has_none, or_null_has_none, string_has_none}
 use Rattle.json_answers.proofs.Shallow.{Within, list_within, natural_within, object_within, or_null_within, string_within}
 
@@ -115,19 +117,25 @@ shares_have_none c s work span =
       ),
     )
 
+finish_has_none : (g : Gathered) → HasNoFloat (finish_json g)
+finish_has_none g = object_has_none (finish_members g) (refl, (refl, tt))
+
 pub summary_has_none : (workers : ℕ) (s : TraceSummary) → HasNoFloat (summary_json workers s)
 summary_has_none workers s =
     object_has_none (summary_members workers s) (
       refl,
       (
-        refl,
+        list_has_none finish_json (map gathered s.faults.items) finish_has_none,
         (
           refl,
           (
             refl,
             (
               refl,
-              (refl, (refl, (list_has_none natural s.by_worker.items natural_has_none, (refl, (refl, tt))))),
+              (
+                refl,
+                (refl, (refl, (list_has_none natural s.by_worker.items natural_has_none, (refl, (refl, tt))))),
+              ),
             ),
           ),
         ),
@@ -186,12 +194,16 @@ shares_within c s work span =
     ) in
     omega arith
 
+finish_within : (g : Gathered) → Within 1 (finish_json g)
+finish_within g = object_within 0 (finish_members g) (omega arith, (omega arith, tt))
+
 pub summary_within : (workers : ℕ) (s : TraceSummary) → depth (summary_json workers s) ≤ max_depth
 summary_within workers s =
-    let whole = object_within 1 (summary_members workers s) (
+    let by_worker = list_within 0 natural s.by_worker.items natural_within in
+    let whole = object_within 2 (summary_members workers s) (
       omega arith,
       (
-        omega arith,
+        list_within 1 finish_json (map gathered s.faults.items) finish_within,
         (
           omega arith,
           (
@@ -202,7 +214,7 @@ summary_within workers s =
                 omega arith,
                 (
                   omega arith,
-                  (list_within 0 natural s.by_worker.items natural_within, (omega arith, (omega arith, tt))),
+                  (omega arith, (omega (arith, by_worker), (omega arith, (omega arith, tt)))),
                 ),
               ),
             ),
