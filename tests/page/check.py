@@ -205,6 +205,25 @@ def check_outcome(browser, case):
     browser.press("#tab-log")
 
 
+def check_rescues(browser, case):
+    """Each finish that gathers faults and has a rescue is marked, with the number that the trace records."""
+    lines = [json.loads(line) for line in pathlib.Path(case.trace).read_text().splitlines()[1:]]
+    faults = {at: line["faults"] for at, line in enumerate(lines) if line["e"] == "resume" and line["faults"] > 0}
+    text = re.sub(r"//[^\n]*", "", pathlib.Path(case.program).read_text())
+    holds(f"{case.name}: some finish gathers faults", faults != {} and text.count("finish {") == text.count("rescue ") +
+          (case.name == "rescued"), faults)
+    got = browser.run("Array.from(run.rescued, (n, s) => [run.resumed[s], n]).filter(([, n]) => n > 0)")
+    same(f"{case.name}: rescues", {at: n for at, n in got}, faults)
+    browser.run("setRows('finishes')")
+    browser.frames()
+    holds(f"{case.name}: the mark is explained", "rescue" in browser.text("#rows-note"), browser.text("#rows-note"))
+    at = max(faults)
+    browser.run(f"go({at})")
+    browser.frames()
+    holds(f"{case.name}: a rescue in words", "which the rescue drops" in browser.text("#say"), browser.text("#say"))
+    browser.run("setRows('tree')")
+
+
 def check_labels(browser, case):
     """The table of labels has the numbers of `cost`, or those of the trace."""
     cost = ask("cost", case.program, "--by-line", *case.input, *case.budget)
@@ -584,7 +603,7 @@ def check_explored(browser, folder):
     long.write_text(STEPS % 1100)
     endless.write_text("main { while true { finish { async { skip; } } } }\n")
     for program, given in (("examples/two_arrays.afx", None), ("examples/doubling.afx", "examples/doubling.json"),
-                           (HERE / "faults.afx", None)):
+                           (HERE / "faults.afx", None), (HERE / "rescued.afx", None)):
         made = Explored(folder, pathlib.Path(program).stem, program, given)
         name = f"explored {made.name}"
         browser.open(made.page)
@@ -796,13 +815,16 @@ def main():
                         holds("stopped: no schedules", "over its budget" in browser.run("whyNoSchedules()"))
                     else:
                         check_schedules(browser, made)
-            if wanted("parts"):
-                for example in ("task_per_piece", "turned_names"):
-                    program, trace = pathlib.Path(f"examples/{example}.afx"), folder / f"{example}.trace"
+            for test, programs in (("parts", ("examples/task_per_piece.afx", "examples/turned_names.afx")),
+                                   ("rescued", (HERE / "rescued.afx", "examples/failed_tasks.afx", "examples/retry.afx"))):
+                for program in map(pathlib.Path, programs if wanted(test) else ()):
+                    trace = folder / f"{program.stem}.trace"
                     ask("run", program, "--workers", "2", "--trace", trace)
-                    made = Case(folder, example, program, trace)
+                    made = Case(folder, program.stem, program, trace)
                     check_all(browser, made)
                     check_schedules(browser, made)
+                    if test == "rescued":
+                        check_rescues(browser, made)
             if wanted("explored"):
                 check_explored(browser, folder)
             if wanted("values"):

@@ -144,8 +144,41 @@ const FLOWS = {o: 'on', f: 'faulted', s: 'stopped'};
 // Whether a task continues: `on`, `faulted` or `stopped`.
 function flowOf(run, task, event) {
   const change = changeOf(run.flowsOf, task, run.flowAt, event);
+  const rescue = changeOf(run.rescuesOf, task, run.rescueAt, event);
+  if (rescue >= 0 && (change < 0 || run.flowAt[change] <= run.rescueAt[rescue])) return 'on';
   return FLOWS[change < 0 ? 'o' : run.data.flows.flow[change]];
 }
+
+// The number of faults that the rescue of each scope drops, the resumes of these scopes, and for each fault the resume at
+// which it is dropped.
+function followRescues(run, program) {
+  run.rescued = new Int32Array(run.scopes);
+  const resumes = [];
+  for (let i = 0; i < run.gatheredAt.length; i++) {
+    const event = run.gatheredAt[i];
+    const scope = run.scope[event];
+    if (!program.rescues.has(run.label[run.scopeAt[scope]])) continue;
+    run.rescued[scope] = run.data.gathered.count[i];
+    resumes.push(event);
+  }
+  run.rescueAt = Int32Array.from(resumes);
+  run.rescuesOf = groups(tasksAt(run, run.rescueAt), run.tasks);
+  run.droppedAt = integers(run.faultAt.length, fault => dropOf(run, run.faultAt[fault]));
+}
+
+// The resume at which a rescue drops the fault of an event, or the number of events. A fault goes from scope to scope
+// outwards.
+function dropOf(run, event) {
+  let scope = scopeAround(run, run.task[event], event);
+  while (scope > 0 && run.resumed[scope] < run.events) {
+    if (run.rescued[scope] > 0) return run.resumed[scope];
+    scope = run.up[scope];
+  }
+  return run.events;
+}
+
+// The faults of an event that no rescue has dropped up to another event.
+const faultsKept = (run, event, until) => changesAt(run.faultAt, event).filter(fault => run.droppedAt[fault] > until);
 
 // The event that had to happen before this one, or -1: what led to it.
 function causeOf(run, event) {

@@ -466,12 +466,12 @@ function drawOutput() {
       lines++;
       if (lines <= MOST_LINES) rows.push(outputRow(e, run.data.lines.values[line].join(' '), false));
     }
-    faults += changesAt(run.faultAt, e).length;
+    faults += faultsKept(run, e, view.at).length;
   }
   if (lines > MOST_LINES) rows.push(small(`and ${num(lines - MOST_LINES)} more lines`));
   for (const e of run.inOrder) {
     if (e > view.at) continue;
-    for (const fault of changesAt(run.faultAt, e)) {
+    for (const fault of faultsKept(run, e, view.at)) {
       rows.push(outputRow(e, `fault ${pathOf(run, run.task[e])} at ${run.label[e]}: ${faultKind(run, fault)}`, true));
     }
   }

@@ -18,7 +18,8 @@ function readProgram(data) {
     while (token < tokens.length && tokens[token].at < from) token++;
     heads.push(headFrom(tokens, token, data.places.line[i]));
   }
-  const program = {name: data.name, text, lineStarts, tokens, labels, heads, procedures: [], ranges: [], arrays: data.arrays};
+  const program = {name: data.name, text, lineStarts, tokens, labels, heads, procedures: [], ranges: [], arrays: data.arrays,
+    rescues: new Set()};
   readProcedures(program);
   return program;
 }
@@ -33,13 +34,16 @@ function headFrom(tokens, first, line) {
 }
 
 // Reads the procedures: their labels, the names of their scalars and sections, and the part of the text in which each name is
-// in scope. Scalars and sections are declared in the order of their numbers.
+// in scope. Scalars and sections are declared in the order of their numbers. Also finds the labels of finishes with a rescue.
 function readProcedures(program) {
   const tokens = program.tokens.filter(token => !token.text.startsWith('//'));
   let names = null;
   let ranges = null;
   let blocks = [];
   let parameters = [];
+  let opener = 0;    // where the last finish begins, and where the statement of the block that was closed last
+  let closed = 0;
+  const labelAt = new Map(program.heads.map((head, label) => [head.from, label]));
   const declare = (list, name, from) => {
     const range = {from, to: program.text.length};
     names[list].push(name);
@@ -59,19 +63,24 @@ function readProcedures(program) {
     } else if (text === 'array') {
       declare('sections', tokens[i + 1].text, at);
     } else if (text === 'var') {
-      blocks[blocks.length - 1].push(declare('scalars', tokens[i + 1].text, at));
+      blocks[blocks.length - 1].names.push(declare('scalars', tokens[i + 1].text, at));
     } else if (text === 'split' || text === 'parts') {
       while (i < tokens.length && tokens[i].text !== '{') i++;
-      blocks.push([declare('sections', tokens[i - 3].text, at),
-        declare(text === 'split' ? 'sections' : 'scalars', tokens[i - 1].text, at)]);
+      const first = declare('sections', tokens[i - 3].text, at);
+      blocks.push({names: [first, declare(text === 'split' ? 'sections' : 'scalars', tokens[i - 1].text, at)], opener: at});
+    } else if (text === 'finish') {
+      opener = at;
     } else if (text === 'rescue') {
-      blocks.push([declare('scalars', tokens[++i].text, at)]);
+      program.rescues.add(labelAt.get(closed));
+      blocks.push({names: [declare('scalars', tokens[++i].text, at)], opener: at});
       i++;
     } else if (text === '{') {
-      blocks.push(parameters);
+      blocks.push({names: parameters, opener});
       parameters = [];
     } else if (text === '}') {
-      for (const range of blocks.pop() || []) range.to = at;
+      const block = blocks.pop() || {names: [], opener: 0};
+      for (const range of block.names) range.to = at;
+      closed = block.opener;
     }
   }
   program.procedures.forEach((procedure, i) => {

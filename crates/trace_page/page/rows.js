@@ -31,7 +31,7 @@ function setRows(which) {
   for (const name of ['tree', 'packed', 'finishes']) {
     byId('rows-' + name).setAttribute('aria-pressed', String(name === which));
   }
-  byId('rows-note').textContent = which === 'finishes' ? 'solid: the owner works in it · dashed: the owner waits'
+  byId('rows-note').textContent = which === 'finishes' ? finishesNote()
     : 'thick: runs · thin: in a deque · dashed: waits at its finish';
   keepHeight(byId('tall'), heightOfRows());
   changed(ROWS | CURSOR);
@@ -185,7 +185,10 @@ function drawPackedRow(pen, row, y, width) {
   pen.globalAlpha = 1;
 }
 
-// Several finishes in one row: solid while the owner works in one, dashed while it waits.
+const finishesNote = () => 'solid: the owner works in it · dashed: the owner waits' +
+  (run.rescueAt.length > 0 ? ' · dot: a rescue drops its faults' : '');
+
+// Several finishes in one row: solid while the owner works in one, dashed while it waits. A dot at the end of a rescued one.
 function drawFinishRow(pen, row, y, width) {
   const group = run.scopesByRow;
   const high = group.start[row + 1];
@@ -207,6 +210,7 @@ function drawFinishRow(pen, row, y, width) {
     tint(pen, colors.soft, 1);
     pen.fillRect(x0, middle - 5, 1.5, 10);
     if (run.scopePassed[scope] < run.events) pen.fillRect(x1 - 1.5, middle - 5, 1.5, 10);
+    if (run.rescued[scope] > 0) drawDot(pen, colors.rescue, x1 - 1, middle);
     const name = scopeName(run, scope);
     pen.font = SMALL;
     const needed = pen.measureText(name).width + 6;
@@ -218,6 +222,13 @@ function drawFinishRow(pen, row, y, width) {
     }
   }
   pen.globalAlpha = 1;
+}
+
+function drawDot(pen, color, x, y) {
+  tint(pen, color, 1);
+  pen.beginPath();
+  pen.arc(x, y, 3.5, 0, 7);
+  pen.fill();
 }
 
 // ---- the left end of a row

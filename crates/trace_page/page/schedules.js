@@ -27,11 +27,14 @@ function leafOf(task, at, told) {
 const besideOf = (left, right) =>
   ({kind: 'beside', left, right, ready: left.ready + right.ready, done: left.done && right.done});
 
-// A finish whose body is a tree. The owner continues as soon as all in it is done.
-function finishOf(first, owner) {
-  if (!first.done) return {kind: 'finish', first, owner, ready: first.ready, done: false};
-  return leafOf(owner, rightmost(first).at + 1, toldIn(first));
+// A finish whose body is a tree. The owner continues as soon as all in it is done. A rescue drops the faults.
+function finishOf(first, owner, scope) {
+  if (!first.done) return {kind: 'finish', first, owner, scope, ready: first.ready, done: false};
+  const told = toldIn(first);
+  return leafOf(owner, rightmost(first).at + 1, run.rescued[scope] > 0 ? told.filter(isNoFault) : told);
 }
+
+const isNoFault = event => changesAt(run.faultAt, event).length === 0;
 
 function rightmost(tree) {
   let at = tree;
@@ -47,7 +50,7 @@ function toldIn(tree) {
 
 // The tree after a step of the task with a number, among those that can take one, from the left.
 function stepped(tree, number) {
-  if (tree.kind === 'finish') return finishOf(stepped(tree.first, number), tree.owner);
+  if (tree.kind === 'finish') return finishOf(stepped(tree.first, number), tree.owner, tree.scope);
   if (tree.kind === 'leaf') return afterStep(tree);
   const {left, right} = tree;
   return number < left.ready ? besideOf(stepped(left, number), right) : besideOf(left, stepped(right, number - left.ready));
@@ -55,7 +58,7 @@ function stepped(tree, number) {
 
 function afterStep({task, at, told, event}) {
   if (run.kind[event] === SPAWN) return besideOf(leafOf(childAt(run, event), 0, told), leafOf(task, at + 1, []));
-  if (run.kind[event] === OPEN) return finishOf(leafOf(task, at + 1, told), task);
+  if (run.kind[event] === OPEN) return finishOf(leafOf(task, at + 1, told), task, run.scope[event]);
   const tells = changesAt(run.lineAt, event).length > 0 || changesAt(run.faultAt, event).length > 0;
   return leafOf(task, at + 1, tells ? told.concat(event) : told);
 }

@@ -2,6 +2,7 @@
 
 const run = readRun(readData(byId('data').textContent));
 const program = readProgram(run.data);
+followRescues(run, program);
 
 const view = {
   at: 0,                    // the event under the cursor
@@ -59,7 +60,7 @@ function readColors(dark) {
   view.dark = dark;
   document.documentElement.dataset.theme = dark ? 'dark' : 'light';
   const style = getComputedStyle(document.documentElement);
-  for (const name of ['panel', 'ink', 'soft', 'line', 'lane', 'mark', 'cursor', 'gold', 'hit', 'on']) {
+  for (const name of ['panel', 'ink', 'soft', 'line', 'lane', 'mark', 'cursor', 'gold', 'hit', 'on', 'rescue']) {
     colors[name] = style.getPropertyValue('--' + name).trim();
   }
   for (let i = 0; i < PALETTE; i++) colors['w' + i] = style.getPropertyValue('--w' + i).trim();

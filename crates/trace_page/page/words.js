@@ -75,7 +75,8 @@ function effectOf(run, program, event) {
   for (const line of changesAt(run.lineAt, event)) parts.push('prints ' + run.data.lines.values[line].join(' '));
   for (const fault of changesAt(run.faultAt, event)) parts.push('fault ' + faultKind(run, fault));
   for (const gathered of changesAt(run.gatheredAt, event)) {
-    parts.push('gathers ' + count(run.data.gathered.count[gathered], 'fault'));
+    const dropped = run.rescued[run.scope[event]] > 0 ? ', which the rescue drops' : '';
+    parts.push('gathers ' + count(run.data.gathered.count[gathered], 'fault') + dropped);
   }
   for (const flow of changesAt(run.flowAt, event)) {
     if (run.data.flows.flow[flow] === 's') parts.push('stopped over its budget');

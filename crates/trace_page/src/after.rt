@@ -245,7 +245,8 @@ function readProgram(data) {
     while (token < tokens.length && tokens[token].at < from) token++;
     heads.push(headFrom(tokens, token, data.places.line[i]));
   }
-  const program = {name: data.name, text, lineStarts, tokens, labels, heads, procedures: [], ranges: [], arrays: data.arrays};
+  const program = {name: data.name, text, lineStarts, tokens, labels, heads, procedures: [], ranges: [], arrays: data.arrays,
+    rescues: new Set()};
   readProcedures(program);
   return program;
 }
@@ -260,13 +261,16 @@ function headFrom(tokens, first, line) {
 }
 
 // Reads the procedures: their labels, the names of their scalars and sections, and the part of the text in which each name is
-// in scope. Scalars and sections are declared in the order of their numbers.
+// in scope. Scalars and sections are declared in the order of their numbers. Also finds the labels of finishes with a rescue.
 function readProcedures(program) {
   const tokens = program.tokens.filter(token => !token.text.startsWith('//'));
   let names = null;
   let ranges = null;
   let blocks = [];
   let parameters = [];
+  let opener = 0;    // where the last finish begins, and where the statement of the block that was closed last
+  let closed = 0;
+  const labelAt = new Map(program.heads.map((head, label) => [head.from, label]));
   const declare = (list, name, from) => {
     const range = {from, to: program.text.length};
     names[list].push(name);
@@ -286,19 +290,24 @@ function readProcedures(program) {
     } else if (text === 'array') {
       declare('sections', tokens[i + 1].text, at);
     } else if (text === 'var') {
-      blocks[blocks.length - 1].push(declare('scalars', tokens[i + 1].text, at));
+      blocks[blocks.length - 1].names.push(declare('scalars', tokens[i + 1].text, at));
     } else if (text === 'split' || text === 'parts') {
       while (i < tokens.length && tokens[i].text !== '{') i++;
-      blocks.push([declare('sections', tokens[i - 3].text, at),
-        declare(text === 'split' ? 'sections' : 'scalars', tokens[i - 1].text, at)]);
+      const first = declare('sections', tokens[i - 3].text, at);
+      blocks.push({names: [first, declare(text === 'split' ? 'sections' : 'scalars', tokens[i - 1].text, at)], opener: at});
+    } else if (text === 'finish') {
+      opener = at;
     } else if (text === 'rescue') {
-      blocks.push([declare('scalars', tokens[++i].text, at)]);
+      program.rescues.add(labelAt.get(closed));
+      blocks.push({names: [declare('scalars', tokens[++i].text, at)], opener: at});
       i++;
     } else if (text === '{') {
-      blocks.push(parameters);
+      blocks.push({names: parameters, opener});
       parameters = [];
     } else if (text === '}') {
-      for (const range of blocks.pop() || []) range.to = at;
+      const block = blocks.pop() || {names: [], opener: 0};
+      for (const range of block.names) range.to = at;
+      closed = block.opener;
     }
   }
   program.procedures.forEach((procedure, i) => {
@@ -856,8 +865,41 @@ const FLOWS = {o: 'on', f: 'faulted', s: 'stopped'};
 // Whether a task continues: `on`, `faulted` or `stopped`.
 function flowOf(run, task, event) {
   const change = changeOf(run.flowsOf, task, run.flowAt, event);
+  const rescue = changeOf(run.rescuesOf, task, run.rescueAt, event);
+  if (rescue >= 0 && (change < 0 || run.flowAt[change] <= run.rescueAt[rescue])) return 'on';
   return FLOWS[change < 0 ? 'o' : run.data.flows.flow[change]];
 }
+
+// The number of faults that the rescue of each scope drops, the resumes of these scopes, and for each fault the resume at
+// which it is dropped.
+function followRescues(run, program) {
+  run.rescued = new Int32Array(run.scopes);
+  const resumes = [];
+  for (let i = 0; i < run.gatheredAt.length; i++) {
+    const event = run.gatheredAt[i];
+    const scope = run.scope[event];
+    if (!program.rescues.has(run.label[run.scopeAt[scope]])) continue;
+    run.rescued[scope] = run.data.gathered.count[i];
+    resumes.push(event);
+  }
+  run.rescueAt = Int32Array.from(resumes);
+  run.rescuesOf = groups(tasksAt(run, run.rescueAt), run.tasks);
+  run.droppedAt = integers(run.faultAt.length, fault => dropOf(run, run.faultAt[fault]));
+}
+
+// The resume at which a rescue drops the fault of an event, or the number of events. A fault goes from scope to scope
+// outwards.
+function dropOf(run, event) {
+  let scope = scopeAround(run, run.task[event], event);
+  while (scope > 0 && run.resumed[scope] < run.events) {
+    if (run.rescued[scope] > 0) return run.resumed[scope];
+    scope = run.up[scope];
+  }
+  return run.events;
+}
+
+// The faults of an event that no rescue has dropped up to another event.
+const faultsKept = (run, event, until) => changesAt(run.faultAt, event).filter(fault => run.droppedAt[fault] > until);
 
 // The event that had to happen before this one, or -1: what led to it.
 function causeOf(run, event) {
@@ -956,7 +998,8 @@ function effectOf(run, program, event) {
   for (const line of changesAt(run.lineAt, event)) parts.push('prints ' + run.data.lines.values[line].join(' '));
   for (const fault of changesAt(run.faultAt, event)) parts.push('fault ' + faultKind(run, fault));
   for (const gathered of changesAt(run.gatheredAt, event)) {
-    parts.push('gathers ' + count(run.data.gathered.count[gathered], 'fault'));
+    const dropped = run.rescued[run.scope[event]] > 0 ? ', which the rescue drops' : '';
+    parts.push('gathers ' + count(run.data.gathered.count[gathered], 'fault') + dropped);
   }
   for (const flow of changesAt(run.flowAt, event)) {
     if (run.data.flows.flow[flow] === 's') parts.push('stopped over its budget');
@@ -987,6 +1030,7 @@ function wholeTale(run, program, event) {
 
 const run = readRun(readData(byId('data').textContent));
 const program = readProgram(run.data);
+followRescues(run, program);
 
 const view = {
   at: 0,                    // the event under the cursor
@@ -1044,7 +1088,7 @@ function readColors(dark) {
   view.dark = dark;
   document.documentElement.dataset.theme = dark ? 'dark' : 'light';
   const style = getComputedStyle(document.documentElement);
-  for (const name of ['panel', 'ink', 'soft', 'line', 'lane', 'mark', 'cursor', 'gold', 'hit', 'on']) {
+  for (const name of ['panel', 'ink', 'soft', 'line', 'lane', 'mark', 'cursor', 'gold', 'hit', 'on', 'rescue']) {
     colors[name] = style.getPropertyValue('--' + name).trim();
   }
   for (let i = 0; i < PALETTE; i++) colors['w' + i] = style.getPropertyValue('--w' + i).trim();
@@ -1705,7 +1749,7 @@ function setRows(which) {
   for (const name of ['tree', 'packed', 'finishes']) {
     byId('rows-' + name).setAttribute('aria-pressed', String(name === which));
   }
-  byId('rows-note').textContent = which === 'finishes' ? 'solid: the owner works in it · dashed: the owner waits'
+  byId('rows-note').textContent = which === 'finishes' ? finishesNote()
     : 'thick: runs · thin: in a deque · dashed: waits at its finish';
   keepHeight(byId('tall'), heightOfRows());
   changed(ROWS | CURSOR);
@@ -1859,7 +1903,10 @@ function drawPackedRow(pen, row, y, width) {
   pen.globalAlpha = 1;
 }
 
-// Several finishes in one row: solid while the owner works in one, dashed while it waits.
+const finishesNote = () => 'solid: the owner works in it · dashed: the owner waits' +
+  (run.rescueAt.length > 0 ? ' · dot: a rescue drops its faults' : '');
+
+// Several finishes in one row: solid while the owner works in one, dashed while it waits. A dot at the end of a rescued one.
 function drawFinishRow(pen, row, y, width) {
   const group = run.scopesByRow;
   const high = group.start[row + 1];
@@ -1881,6 +1928,7 @@ function drawFinishRow(pen, row, y, width) {
     tint(pen, colors.soft, 1);
     pen.fillRect(x0, middle - 5, 1.5, 10);
     if (run.scopePassed[scope] < run.events) pen.fillRect(x1 - 1.5, middle - 5, 1.5, 10);
+    if (run.rescued[scope] > 0) drawDot(pen, colors.rescue, x1 - 1, middle);
     const name = scopeName(run, scope);
     pen.font = SMALL;
     const needed = pen.measureText(name).width + 6;
@@ -1892,6 +1940,13 @@ function drawFinishRow(pen, row, y, width) {
     }
   }
   pen.globalAlpha = 1;
+}
+
+function drawDot(pen, color, x, y) {
+  tint(pen, color, 1);
+  pen.beginPath();
+  pen.arc(x, y, 3.5, 0, 7);
+  pen.fill();
 }
 
 // ---- the left end of a row
@@ -2449,12 +2504,12 @@ function drawOutput() {
       lines++;
       if (lines <= MOST_LINES) rows.push(outputRow(e, run.data.lines.values[line].join(' '), false));
     }
-    faults += changesAt(run.faultAt, e).length;
+    faults += faultsKept(run, e, view.at).length;
   }
   if (lines > MOST_LINES) rows.push(small(`and ${num(lines - MOST_LINES)} more lines`));
   for (const e of run.inOrder) {
     if (e > view.at) continue;
-    for (const fault of changesAt(run.faultAt, e)) {
+    for (const fault of faultsKept(run, e, view.at)) {
       rows.push(outputRow(e, `fault ${pathOf(run, run.task[e])} at ${run.label[e]}: ${faultKind(run, fault)}`, true));
     }
   }
@@ -2531,11 +2586,14 @@ function leafOf(task, at, told) {
 const besideOf = (left, right) =>
   ({kind: 'beside', left, right, ready: left.ready + right.ready, done: left.done && right.done});
 
-// A finish whose body is a tree. The owner continues as soon as all in it is done.
-function finishOf(first, owner) {
-  if (!first.done) return {kind: 'finish', first, owner, ready: first.ready, done: false};
-  return leafOf(owner, rightmost(first).at + 1, toldIn(first));
+// A finish whose body is a tree. The owner continues as soon as all in it is done. A rescue drops the faults.
+function finishOf(first, owner, scope) {
+  if (!first.done) return {kind: 'finish', first, owner, scope, ready: first.ready, done: false};
+  const told = toldIn(first);
+  return leafOf(owner, rightmost(first).at + 1, run.rescued[scope] > 0 ? told.filter(isNoFault) : told);
 }
+
+const isNoFault = event => changesAt(run.faultAt, event).length === 0;
 
 function rightmost(tree) {
   let at = tree;
@@ -2551,7 +2609,7 @@ function toldIn(tree) {
 
 // The tree after a step of the task with a number, among those that can take one, from the left.
 function stepped(tree, number) {
-  if (tree.kind === 'finish') return finishOf(stepped(tree.first, number), tree.owner);
+  if (tree.kind === 'finish') return finishOf(stepped(tree.first, number), tree.owner, tree.scope);
   if (tree.kind === 'leaf') return afterStep(tree);
   const {left, right} = tree;
   return number < left.ready ? besideOf(stepped(left, number), right) : besideOf(left, stepped(right, number - left.ready));
@@ -2559,7 +2617,7 @@ function stepped(tree, number) {
 
 function afterStep({task, at, told, event}) {
   if (run.kind[event] === SPAWN) return besideOf(leafOf(childAt(run, event), 0, told), leafOf(task, at + 1, []));
-  if (run.kind[event] === OPEN) return finishOf(leafOf(task, at + 1, told), task);
+  if (run.kind[event] === OPEN) return finishOf(leafOf(task, at + 1, told), task, run.scope[event]);
   const tells = changesAt(run.lineAt, event).length > 0 || changesAt(run.faultAt, event).length > 0;
   return leafOf(task, at + 1, tells ? told.concat(event) : told);
 }
@@ -3036,8 +3094,10 @@ function aboutRow(event, y) {
     const scope = scopeInRow(row, event);
     if (scope < 0) return [];
     const {issued, returned} = bookAfter(run, scope, event);
+    const rescue = run.rescued[scope] > 0
+      ? [`its rescue drops ${count(run.rescued[scope], 'fault')} at ${num(run.resumed[scope])}`] : [];
     return [`${finishName(run, scope)} at ${num(event)}`, `issued ${num(issued)}, returned ${num(returned)}, ` +
-      `${count(holdersOf(run, scope, event).length, 'task')} hold the rest`, `opened at ${num(run.scopeAt[scope])}`];
+      `${count(holdersOf(run, scope, event).length, 'task')} hold the rest`, `opened at ${num(run.scopeAt[scope])}`, ...rescue];
   }
   const task = view.rows === 'tree' ? run.order[row] : packedTask(row, event);
   if (task < 0) return [];

@@ -5,7 +5,7 @@ pub const BEFORE: &str = "<!doctype html>
 <html lang=\"en\">
 <head>
 <meta charset=\"utf-8\">
-<meta http-equiv=\"Content-Security-Policy\" content=\"default-src 'none'; script-src 'sha256-gFLqaHGg2Nwn1jKWXNCktPbdsi1y/XjCU/NbC29p/2A='; style-src 'sha256-p7zXVitUQ+pEb1t1T0UVlndHR1yue4GWKdlop4UbWcc='; base-uri 'none'; form-action 'none'; require-trusted-types-for 'script'; trusted-types 'none'\">
+<meta http-equiv=\"Content-Security-Policy\" content=\"default-src 'none'; script-src 'sha256-VSCfst5YLNkak+9FB02WauzNfl58R52ASLV6qbkl6Js='; style-src 'sha256-H0JkLDrYvKMPXm/gHlvPwZngN7Rn4pikmcD2hjKHjUo='; base-uri 'none'; form-action 'none'; require-trusted-types-for 'script'; trusted-types 'none'\">
 <meta name=\"viewport\" content=\"width=device-width, initial-scale=1\">
 <meta name=\"referrer\" content=\"no-referrer\">
 <title>afx trace</title>
@@ -13,12 +13,14 @@ pub const BEFORE: &str = "<!doctype html>
   color-scheme: light;
   --bg: #eef1f5; --panel: #fff; --ink: #17212c; --soft: #55626f; --line: #d9dfe6; --lane: #f3f5f8; --mark: #fff3c4;
   --cursor: #17212c; --gold: #b7791f; --hit: #c1121f; --focus: #0b63ce; --shade: #17212c14; --on: #fff;
+  --rescue: #1b7f3b;
   --w0: #0072b2; --w1: #c25400; --w2: #00805d; --w3: #a8427f; --w4: #8a6d00; --w5: #2f6fd6; --w6: #7b4fb5; --w7: #6b5139;
 }
 :root[data-theme=dark] {
   color-scheme: dark;
   --bg: #0c1116; --panel: #151c24; --ink: #e8eef4; --soft: #9aa8b6; --line: #28323d; --lane: #1b242e; --mark: #4a3d10;
   --cursor: #fff; --gold: #f2c14e; --hit: #ff8c94; --focus: #6db3ff; --shade: #ffffff14; --on: #0c1116;
+  --rescue: #6fd08c;
   --w0: #5ab4e6; --w1: #ff9a52; --w2: #41c79f; --w3: #e79ac5; --w4: #e6c33a; --w5: #8db4ff; --w6: #c3a2f2; --w7: #cdb08f;
 }
 * { box-sizing: border-box; }
