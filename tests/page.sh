@@ -6,9 +6,9 @@
 #
 # Checks that `before.rt` and `after.rt` are what build.py writes. Lints the page's code with the eslint of Debian, if it is
 # installed. Then tests/page/check.py opens pages: of the doubling on 4 workers, of a run with steals and gathered faults, of
-# a stopped run, of pieces of arrays, of rescues, of one event and of none, of a program whose text looks like markup, of one with 20,000
-# statements, and of a million events; and pages of schedules. It steps, clicks, zooms, searches and chooses steps there, and
-# compares what the page says with what `afx` prints. NAME is one of its tests:
+# a stopped run, of pieces of arrays, of rescues, of one event and of none, of a program whose text looks like markup, of one
+# with 20,000 statements, and of a million events; and pages of schedules. It steps, clicks, zooms, searches and chooses
+# steps there, and compares what the page says with what `afx` prints. NAME is one of its tests:
 # doubling, faults, stopped, unformatted, parts, rescued, explored, values, looks, one, none, hostile, long, large.
 #
 # PAGE_SECONDS and PAGE_FRAMES are the limits for a million events (3 and 30). The browser gets two processors.

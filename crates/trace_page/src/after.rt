@@ -3096,8 +3096,9 @@ function aboutRow(event, y) {
     const {issued, returned} = bookAfter(run, scope, event);
     const rescue = run.rescued[scope] > 0
       ? [`its rescue drops ${count(run.rescued[scope], 'fault')} at ${num(run.resumed[scope])}`] : [];
-    return [`${finishName(run, scope)} at ${num(event)}`, `issued ${num(issued)}, returned ${num(returned)}, ` +
-      `${count(holdersOf(run, scope, event).length, 'task')} hold the rest`, `opened at ${num(run.scopeAt[scope])}`, ...rescue];
+    const hold = `${count(holdersOf(run, scope, event).length, 'task')} hold the rest`;
+    return [`${finishName(run, scope)} at ${num(event)}`, `issued ${num(issued)}, returned ${num(returned)}, ${hold}`,
+      `opened at ${num(run.scopeAt[scope])}`, ...rescue];
   }
   const task = view.rows === 'tree' ? run.order[row] : packedTask(row, event);
   if (task < 0) return [];

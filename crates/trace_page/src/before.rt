@@ -5,7 +5,7 @@ pub const BEFORE: &str = "<!doctype html>
 <html lang=\"en\">
 <head>
 <meta charset=\"utf-8\">
-<meta http-equiv=\"Content-Security-Policy\" content=\"default-src 'none'; script-src 'sha256-VSCfst5YLNkak+9FB02WauzNfl58R52ASLV6qbkl6Js='; style-src 'sha256-H0JkLDrYvKMPXm/gHlvPwZngN7Rn4pikmcD2hjKHjUo='; base-uri 'none'; form-action 'none'; require-trusted-types-for 'script'; trusted-types 'none'\">
+<meta http-equiv=\"Content-Security-Policy\" content=\"default-src 'none'; script-src 'sha256-rSnuBOaxgwjbOajQibEkY6QM3EegugBZ6oG5jp9FScQ='; style-src 'sha256-H0JkLDrYvKMPXm/gHlvPwZngN7Rn4pikmcD2hjKHjUo='; base-uri 'none'; form-action 'none'; require-trusted-types-for 'script'; trusted-types 'none'\">
 <meta name=\"viewport\" content=\"width=device-width, initial-scale=1\">
 <meta name=\"referrer\" content=\"no-referrer\">
 <title>afx trace</title>
