@@ -3,6 +3,8 @@ use Rattle.std.proofs.Common.{◌≡◌, inl, inr, ℕ, ℤ, List, [], Option, R
 use Rattle.std.specs.Prelude.{IfOk, IsErrAnd}
 use Rattle.std.specs.declared.alloc.AllocError.{AllocError}
 use Rattle.types.specs.Code.{Program}
+use Rattle.types.specs.Translation.{input as lists_in}
+use Rattle.types.specs.Typed.{code_of}
 use Rattle.types.specs.declared.budget.Budget.{Budget}
 use Rattle.race_checker.specs.Clash.{IsAccepted}
 use Rattle.events.specs.declared.event.Event.{Event}
