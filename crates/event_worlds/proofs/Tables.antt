@@ -6,11 +6,9 @@ use Rattle.types.specs.Code.{Program}
 use Rattle.types.specs.Outcome.{Budget}
 use Rattle.types.specs.declared.path.Path.{Path}
 use Rattle.effects.specs.Rounds.{needs_of}
-use Rattle.task_run.specs.Results.{and_then}
-use Rattle.task_run.proofs.SettledResults.{gives, paths_same}
+use Rattle.task_run.proofs.SettledResults.{paths_same}
 use Rattle.task_run.specs.declared.job.Job.{Job}
-use Rattle.event_worlds.specs.Events.{Event, after}
-use Rattle.event_worlds.specs.Replay.{does, hands_on, start_of}
+use Rattle.event_worlds.specs.Events.{Event}
 use Rattle.types.specs.Translation.{is_path}
 use Rattle.event_worlds.specs.Shown.{ArePaths, AreBoth, IsTaskOf, IsBookOf, is_scope, scope_id}
 use Rattle.event_worlds.specs.World.{Live, Scope, World, same_path, task, put_task, without_task, scope, put_scope, in_hand, hand_is_free}
