@@ -7,7 +7,7 @@ use Rattle.std.proofs.lemmas.List.{get_or-drop, get_or-set_other, get_or-take, l
 use Rattle.std.proofs.Math.ListN.{get_or-append}
 use Rattle.std.proofs.Math.Seq.{get_or-append_seam}
 use Rattle.std.proofs.lemmas.Option.{slice_get_past, slice_get-get_or}
-use Rattle.std.specs.Prelude.{◌&&◌, drop, nat_eq, nat_le, nat_lt, slice_get, slice_range, take, if◌then◌else◌}
+use Rattle.std.specs.Prelude.{◌&&◌, drop, nat_eq, nat_le, nat_lt, slice_get, slice_range, if◌then◌else◌}
 use Rattle.blocks.specs.Numbers.{row_from}
 use Rattle.blocks.specs.Offsets.{inside}
 

@@ -1,4 +1,4 @@
-use Rattle.std.proofs.Common.{◌≡◌, ◌+◌, ◌-◌, ◌≤◌, List, length, arith, ap, ◌∙◌, pos}
+use Rattle.std.proofs.Common.{◌-◌, List, length, arith, ap, ◌∙◌, pos}
 use Rattle.std.specs.Prelude.{ℕ, ℤ, slice_range}
 use Rattle.blocks.specs.Numbers.{row_from}
 use Rattle.blocks.specs.declared.numbers.Numbers.{Numbers}
