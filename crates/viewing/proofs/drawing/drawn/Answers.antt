@@ -27,5 +27,5 @@ returns c =
     (IfOk-weaker c.page_of.result _ (λ page. ShowsPage name s text t (string_bytes page))
     (λ page is. record {
       labels = _;
-      page = subst (λ (file : List ℕ). IsPage (traced_of t name text file _) (string_bytes page)) c.trace_name.ensures is;
+      page = subst (λ (file : List ℕ). IsPage (traced_of t name text file _) (string_bytes page)) c.trace_name-in-Html.ensures is;
     }) c.page_of.ensures)
