@@ -82,7 +82,8 @@ module _ (ts : List rTested) where
   pub all_counted : (n passed : ℕ) → length ts ≤ n → passed_of (left n) + passed ≡ passed_of (map judged ts)
       → passed ≡ passed_of (map judged ts)
   all_counted n passed all so_far =
-      sym (ap (λ (xs : List rTested). passed_of (map judged xs) + passed) (drop_all n ts all)) ∙ so_far
+      let none : 0 + passed ≡ passed = omega arith in
+      sym none ∙ sym (ap (λ (xs : List rTested). passed_of (map judged xs) + passed) (drop_all n ts all)) ∙ so_far
 
   pub one_shown : (n : ℕ) (text longer : List ℕ) (t d : rTested) → n < length ts → t ≡ get_or ts n d
       → longer ≡ text ++ string_bytes t.verdict.lines
