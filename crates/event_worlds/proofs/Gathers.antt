@@ -4,7 +4,8 @@ use Rattle.std.proofs.Common.{◌≡◌, ℕ, zero, suc, ◌+◌, List, [], ◌�
 use Rattle.std.proofs.lemmas.List.{append-nil}
 use Rattle.std.proofs.lemmas.Option.{none-some, same_Some}
 use Rattle.std.proofs.lemmas.Bool.{and_parts, and_right, eqb-true}
-use Rattle.std.specs.Prelude.{◌<◌, ◌^◌, SomeIff, Bool, true, false, map, length, nat_eq, slice_get, if◌then◌else◌}
+use Rattle.std.specs.Global.{Global}
+use Rattle.std.specs.Prelude.{◌<◌, ◌^◌, SomeIff, Vec, Bool, true, false, map, length, nat_eq, slice_get, if◌then◌else◌}
 use Rattle.std.specs.HashMap.{get}
 use Rattle.shared_lemmas.proofs.Truths.{false_true}
 use Rattle.types.specs.Code.{Codes, Program}
@@ -26,12 +27,12 @@ use Rattle.task_run.specs.Translation.{task_result}
 use Rattle.task_run.specs.declared.result.TaskResult.{TaskResult as Made}
 use Rattle.event_worlds.specs.Courses.{Course, course_of, IsAtAnEnd, IsDoing, made_at}
 use Rattle.event_worlds.specs.Ending.{MayLeave}
-use Rattle.event_worlds.specs.Events.{Event, Resume, only_if}
+use Rattle.event_worlds.specs.Events.{Event, Resume, give_back, only_if}
 use Rattle.event_worlds.specs.Gathered.{before_children, faults_in, faults_of}
 use Rattle.event_worlds.specs.Jobs.{IsWeightedJob}
 use Rattle.event_worlds.specs.Numbering.{with_number}
 use Rattle.event_worlds.specs.Replay.{hands_on, innermost, is_number}
-use Rattle.event_worlds.specs.Shown.{Becomes, IsBookOf, IsDoingThere, IsLegal, IsParked, IsTaskOf, Refuses, Shows, is_scope, next_world}
+use Rattle.event_worlds.specs.Shown.{AreResultsOf, Becomes, IsBookOf, IsDoingThere, IsLegal, IsParked, IsTaskOf, Refuses, Shows, is_scope, next_world}
 use Rattle.event_worlds.specs.Shown.{scope_id, stake, whereabouts}
 use Rattle.event_worlds.specs.Telling.{gathered_by}
 use Rattle.event_worlds.specs.Walks.{IsIllegal}
@@ -41,6 +42,7 @@ use Rattle.event_worlds.specs.declared.doing.TaskProgress.TheVariants.{Starts, R
 use Rattle.event_worlds.specs.declared.doing.TaskProgress.TheVariants.{AtFinish, AtEnd as rAtEnd}
 use Rattle.event_worlds.specs.declared.error.EventError.{EventError}
 use Rattle.event_worlds.specs.declared.error.EventError.TheVariants.{Illegal, NoMemory}
+use Rattle.event_worlds.specs.declared.scope.WorldScope.{WorldScope as rScope}
 use Rattle.event_worlds.specs.declared.world.World.{World as rWorld}
 use Rattle.event_worlds.proofs.Came.{ends_with}
 use Rattle.event_worlds.proofs.Lookups.{by_test}
@@ -59,6 +61,20 @@ before_more (c ∷ cs) ds = let rest = before_more cs ds in omega (arith, rest)
 pub one_result_more : (rs : List TaskResult) (r : TaskResult) → faults_of (rs ++ r ∷ []) ≡ faults_of rs + faults_in r
 one_result_more [] r = omega arith
 one_result_more (x ∷ rs) r = let rest = one_result_more rs r in omega (arith, rest)
+
+-- ---- a scope
+-- results that are kept while weight alone comes back
+pub given_back : (o : Option (Vec Made Global)) (w : ℕ) (b : Scope) → AreResultsOf o b → AreResultsOf o (give_back w [] b)
+given_back None w b h = h
+given_back (Some rs) w b h = h ∙ sym (append-nil b.results)
+
+-- one result more is kept, and its faults are counted
+pub counted : (s : rScope) (b : Scope) (w n faults : ℕ) (r : TaskResult) → n ≡ faults_of b.results → faults ≡ n + faults_in r
+    → IsBookOf (record s { faults = faults_of (b.results ++ r ∷ []) }) (give_back w (r ∷ []) b)
+    → IsBookOf (record s { faults = faults }) (give_back w (r ∷ []) b)
+counted s b w n faults r before is h =
+    subst (λ (k : ℕ). IsBookOf (record s { faults = k }) (give_back w (r ∷ []) b))
+    (one_result_more b.results r ∙ ap (λ (k : ℕ). k + faults_in r) (sym before) ∙ sym is) h
 
 -- ---- a task that waits
 module _ (p : Program) (needs : Codes → Needs) (nest : ℕ) (close : State Own → Option Settled) where

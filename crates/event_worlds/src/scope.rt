@@ -1,10 +1,10 @@
 //! The scope of a finish: the weight issued, the weight that came back, and the results.
 
-ghost use Rattle.std.specs.Prelude.{◌≡◌, ◌+◌, ◌*◌, ◌<◌, ◌≤◌, ◌&&◌, [], ◌∷◌, not, nat_eq};
+ghost use Rattle.std.specs.Prelude.{◌≡◌, ◌+◌, ◌*◌, ◌<◌, ◌≤◌, ◌&&◌, [], ◌∷◌, ◌++◌, not, nat_eq};
 ghost use Rattle.std.specs.Prelude.{◌↔◌, ◌^◌, IfErr, IsTrue, OnOk, SomeIff, map};
 ghost use Rattle.task_run.specs.Translation.{listed, task_result};
 ghost use Rattle.event_worlds.specs.Events.{give_back, issue, may_issue, new_scope};
-ghost use Rattle.event_worlds.specs.Gathered.{before_children as faults_before, faults_in};
+ghost use Rattle.event_worlds.specs.Gathered.{before_children as faults_before, faults_in, faults_of};
 ghost use Rattle.event_worlds.specs.World.{Scope as Book};
 ghost use Rattle.event_worlds.specs.Shown.{IsBookOf, ScopeStays};
 ghost use Rattle.event_worlds.specs.declared.error.EventError.TheVariants.{NoMemory};
@@ -79,12 +79,25 @@ impl WorldScope {
         let Some(faults) = more_faults(self.faults, &made) else {
             return Err(EventError::NoMemory);
         };
+        self.keep(weight, made)?;
+        self.faults = faults;
+        Ok(())
+    }
+
+    /// Takes back weight, together with a result, whose faults aren't counted yet.
+    fn keep(&mut self, weight: u64, made: TaskResult) -> Result<(), EventError>
+        requires { self.old.returned + weight ≤ self.old.issued }
+        ensures kept { OnOk result ((book : Book) → IsBookOf self.old book
+            → IsBookOf (record self.new { faults = faults_of (book.results ++ task_result made ∷ []) })
+            (give_back weight (task_result made ∷ []) book)) }
+        ensures refused { IfErr result (λ e. (e ≡ NoMemory)
+            × ScopeStays self.old self.new) }
+    {
         let Some(results) = &mut self.results else {
             return Err(EventError::NoMemory);
         };
         results.push(made)?;
         self.returned += weight;
-        self.faults = faults;
         Ok(())
     }
 
