@@ -1,11 +1,15 @@
-use Rattle.std.proofs.Common.{◌∙◌, ◌∷◌, ◌++◌, ◌+◌, [], List, ap, drop, map, sym}
+use Rattle.std.proofs.Common.{◌≡◌, ◌∙◌, ◌∷◌, ◌++◌, ◌+◌, [], List, ap, drop, map, subst, sym}
 use Rattle.std.proofs.lemmas.Bool.{OnTrue_at}
 use Rattle.std.proofs.lemmas.List.{append-nil, drop_all, drop_more}
 use Rattle.std.specs.Prelude.{true}
 use Rattle.events.specs.declared.event.Event.{Event}
+use Rattle.event_worlds.specs.Replay.{IllegalAt}
+use Rattle.event_worlds.specs.Replaying.{comes}
+use Rattle.event_worlds.specs.declared.job.WeightedJob.{WeightedJob}
 use Rattle.event_worlds.proofs.Replaying.{goes_on, left_comes, stops_at}
 use Rattle.trace_text.specs.Spelled.{fits}
 use Rattle.trace_text.specs.declared.header.Format.TheVariants.{Two}
+use Rattle.trace.specs.Upgrades.{IsUpgraded}
 use Rattle.trace.proofs.LogLemmas.{fits_more}
 use Rattle.trace.proofs.UpgradeLemmas.{from, one_more}
 use Rattle.trace.proofs.upgrade.upgrade.Goals as goal
@@ -17,9 +21,10 @@ returns-in-Err-Illegal-clause-refused c =
     let es = c.args.events.now in
     let e = c.index-events-number.result in
     let split = drop_more es n e c.events-test.true ∙ ap (λ x. x ∷ drop (n + 1) es) (sym c.index-events-number.is) in
-    i.same ∙ ap (λ l. left_comes c.in-Some.job n l i.at) split
+    subst (λ (j : WeightedJob). comes j es ≡ IllegalAt n) c.in-Some.ensures.1
+    (i.same ∙ ap (λ l. left_comes c.in-Some.job n l i.at) split
     ∙ stops_at c.in-Some.job c.events.world i.job i.at i.shows n e (drop (n + 1) es) c.go_by.new.self
-    (c.in-Err-Illegal.ensures.refused c.in-Err-Illegal.field-0-is)
+    (c.in-Err-Illegal.ensures.refused c.in-Err-Illegal.field-0-is))
 
 pub events-preserved : goal.events-preserved
 events-preserved c =
@@ -27,7 +32,7 @@ events-preserved c =
     let n = c.events.number in
     let es = c.args.events.now in
     let e = c.index-events-number.result in
-    let next = c.in_ok-next.next in
+    let next = c.in-Ok-numbered.next in
     let split = drop_more es n e c.events-test.true ∙ ap (λ x. x ∷ drop (n + 1) es) (sym c.index-events-number.is) in
     let s = goes_on c.in-Some.job c.events.world i.job i.at i.shows n e (drop (n + 1) es) c.go_by.new.self c.in-Ok-go_by.ensures.legal in
     let b = c.in-Ok-go_by.ensures.legal i.at i.shows in
@@ -39,7 +44,7 @@ events-preserved c =
       shows = b.2;
       same = i.same ∙ ap (λ l. left_comes c.in-Some.job n l i.at) split ∙ s.1;
       told = ap (λ l. map _ l ++ from c.in-Some.job (map _ (drop (n + 1) es)) b.0) added.0
-          ∙ one_more c.events.world i.at b.0 e next (drop (n + 1) es) i.shows b.1 c.in_ok-next.ensures.numbered c.in-Some.job i.job
+          ∙ one_more c.events.world i.at b.0 e next (drop (n + 1) es) i.shows b.1 c.in-Ok-numbered.ensures.numbered c.in-Some.job i.job
           c.events.told.items es (drop n es) split _ i.told;
       fits_so = ap (λ (l : List Event). fits Two l) added.0 ∙ fits_more c.events.told.items next i.fits_so added.1;
     }
@@ -49,7 +54,9 @@ returns-clause-upgraded c =
     let i = c.events.invariant in
     let none = drop_all c.events.number c.args.events.now c.events-test.false in
     let new = c.in-Some-new.ensures in
-    record {
+    subst (λ (j : WeightedJob). IsUpgraded j c.args.header.now c.args.events.now c.in-Some-new.new c.events.told.items)
+    c.in-Some.ensures.1
+    (record {
       format = new.0;
       budget = new.1;
       w0 = new.2;
@@ -58,4 +65,4 @@ returns-clause-upgraded c =
       legal = i.same ∙ ap (λ l. left_comes c.in-Some.job c.events.number l i.at) none;
       events = sym (append-nil _) ∙ ap (λ l. map _ c.events.told.items ++ from c.in-Some.job (map _ l) i.at) (sym none) ∙ i.told;
       fits_so = i.fits_so;
-    }
+    })
