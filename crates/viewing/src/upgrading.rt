@@ -66,7 +66,10 @@ fn lines_of(alloc: Global, judged: &JudgedTrace) -> Result<String, Failure>
         &trace.header,
         &trace.events,
     ) {
-        Ok((header, events)) => or_no_memory(write_lines(alloc, &header, &events)),
+        Ok((header, events)) => {
+            let text = or_no_memory(write_lines(alloc, &header, &events))?;
+            Ok(text)
+        }
         Err(ReplayError::IllegalAt(_)) => unreachable!(),
         Err(ReplayError::NoMemory) => Err(Failure::NoMemory),
     }

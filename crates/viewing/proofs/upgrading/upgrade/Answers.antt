@@ -1,6 +1,10 @@
-use Rattle.std.proofs.Common.{◌∙◌, refl, sym}
+use Rattle.std.proofs.Common.{◌∙◌, List, ap, map, refl}
+use Rattle.std.proofs.lemmas.Result.{IfOk-at_ok}
 use Rattle.command_line.specs.Requests.{settings}
 use Rattle.command_line.specs.declared.request.Command.TheVariants.{Upgrade}
+use Rattle.events.specs.Events.{event}
+use Rattle.events.specs.declared.event.Event.{Event}
+use Rattle.trace_text.specs.Table.{table_text}
 use Rattle.commands.proofs.Answering.{answered}
 use Rattle.viewing.specs.Views.{AnswersTrace, ExplainsTrace, IsInFormatTwo, picture_name}
 use Rattle.viewing.proofs.Viewing.{in_format_two, legal_in, views_no_trace, views_unwritten}
@@ -31,12 +35,13 @@ pub returns-clause-done : goal.returns-clause-done
 returns-clause-done g c =
     let s = settings c.args.question.settings in let held = g.F.FileSource.held c.args.files.now in
     let text = c.args.question.text.now in let trace = c.in_ok-judged.judged.trace in
-    answered (AnswersTrace Upgrade s held text) (ExplainsTrace Upgrade s held text) _ _ c.answer.result _ 0 tt
+    answered (AnswersTrace Upgrade s held text) (ExplainsTrace Upgrade s held text) _ _ c.answer.result c.as_str.result.now 0 tt
     (record {
       header = trace.header;
       events = trace.events.items;
       trace = c.in_ok-judged.ensures.judged.trace;
-      tells = c.in_ok-table.ensures.value;
+      tells = c.as_str.ensures.value ∙ IfOk-at_ok _ c.in_ok-table.ensures.value c.view.ensures
+          ∙ ap (λ (es : List Event). table_text (map event es)) c.deref.ensures.value;
       status_is = refl;
     })
     c.answer.ensures.text c.answer.ensures.status c.answer.ensures.failure
@@ -49,7 +54,7 @@ returns-clause-trace g c =
     (wrote _ (picture_name s) c.picture_name.ensures (IsInFormatTwo s held text) held _ _ c.in_ok-judged.ensures.keeps
     c.as_bytes.result.now
     (in_format_two s held text judged c.in_ok-judged.ensures.judged c.as_bytes.result.now
-    (sym c.as_bytes.ensures.value ∙ c.in_ok-lines.ensures.lines))
+    (c.as_bytes.ensures.value ∙ c.in_ok-lines.ensures.lines))
     c.in_ok-write_file.ensures.written c.in_ok-write_file.ensures.others)
     c.answer.ensures.failure
 
