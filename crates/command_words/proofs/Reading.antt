@@ -302,12 +302,10 @@ explore_options o for =
     (rw (for.trace.trace, for.trace.picture, for.progress) (read_choosing_words o.arrays o.input o.choices))
 
 -- these aren't for a page
-explore_without_page : (file : List ℕ) (o : Options) → AreForExplore o
+explore_without_page : (file : List ℕ) (o : Options)
     → read_explore file (choosing_words_of (texts_by o))
     ≡ read_optioned (Answer Explore) file (read_choosing (choosing_words_of (texts_by o)))
-explore_without_page file o for =
-    rw (for.budget.steps, for.budget.nest, for.spread.tasks, for.spread.w0, for.spread.workers)
-    (rw (for.trace.trace, for.trace.picture, for.progress) (chosen_without_page o.arrays file o.input o.choices))
+explore_without_page file o = chosen_without_page o.arrays file o.input o.choices
 
 -- a page in which each step is chosen
 read_schedules : (file : List ℕ) (input : Option (List ℕ)) (out : List ℕ) → IsTrue (is_file_name file)
@@ -506,7 +504,7 @@ asks_line words a (to_run_on_one_thread file o named for is asked) =
     (ap read_plain is ∙ read_with (Answer Serial) file (texts_by o) _ named (serial_options o for)) asked
 asks_line words a (to_explore file o named for is asked) =
     line_with words a (Answer Explore) file o for.right
-    (ap read_plain is ∙ explore_without_page file o for
+    (ap read_plain is ∙ explore_without_page file o
     ∙ read_with (Answer Explore) file (texts_by o) _ named (explore_options o for)) asked
 asks_line words a (to_choose file input out named right is asked) =
     line_with words a (Answer Schedules) file (schedule_options input out) right

@@ -12,7 +12,8 @@ use Rattle.std.proofs.Common.{◌≡◌, ℕ, ◌≤◌, List, [], Option, Resul
 use Rattle.std.proofs.lemmas.List.{append-nil}
 use Rattle.std.proofs.KnownBytes.{Appends-kept}
 use Rattle.std.specs.Io.KnownBytes.{Keeps}
-use Rattle.driver.specs.Acts.{AnswersTo, ExplainsAny, ExplainsTo, IsHandedOn, Leaves, LeavesBy, LeavesTo, Performs, Reports, in_short}
+use Rattle.driver.specs.Acts.{AnswersTo, ExplainsAny, ExplainsTo, IsHandedOn, IsSaid, Leaves, LeavesBy, LeavesTo, Performs}
+use Rattle.driver.specs.Acts.{Reports, in_short}
 use Rattle.command_line.specs.declared.request.Action.{Action}
 use Rattle.command_line.specs.declared.request.Action.TheVariants.{Answer as AnswerBy, Rewrite}
 use Rattle.driver.specs.Traced.{IsTraceOfText}
@@ -144,3 +145,11 @@ pub reported_by : (m : More) (old new : Option (List ℕ)) (r s : Result Answere
     → Reports m old new (in_short s) status → Reports m old new (in_short r) status
 reported_by m old new r s status same reports =
     subst (λ (t : Result Answered Refusal). Reports m old new (in_short t) status) (sym same) reports
+
+-- an answer with this status is said as one with an equal status
+pub said_answer : (m : More) (a : Answered) (status : ℕ) → a.status ≡ status
+    → (may_follow m status ≡ false → string_bytes a.more ≡ []) → IsSaid m (Ok a)
+said_answer m a status is bare = record {
+  bare = tt;
+  quiet = λ none. bare (subst (λ (n : ℕ). may_follow m n ≡ false) is none);
+}

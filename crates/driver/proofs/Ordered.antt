@@ -7,7 +7,9 @@ use Rattle.command_words.specs.Orders.{Order}
 use Rattle.test_and_bench.specs.Folders.{Folders}
 use Rattle.driver.specs.More.{more_of, nothing_more}
 use Rattle.driver.specs.declared.more.More.{More}
-use Rattle.driver.specs.Acts.{Reports}
+use Rattle.driver.specs.Acts.{IsSaid, Reports}
+use Rattle.driver.specs.declared.answered.Answered.{Answered}
+use Rattle.driver.specs.declared.refusal.Refusal.{Refusal}
 use Rattle.driver.specs.Orders.{ActsOn, ActsWith, DoesWith, ReadsAnd, TellsTestsAs, TellsUnread, TestsAll, on_text, without_text}
 use Rattle.test_and_bench.specs.TestsObject.{TellsTests}
 use Rattle.test_and_bench.specs.Trials.{DoesTest}
@@ -37,6 +39,10 @@ module _ (d : TextOrder) (a : Asked) (held : Held) (old new : Option (List ℕ))
       → TellsUnread d a.file old new f → ReadsAnd d a held later old new (Err f)
   read_without_text later f keeps why told = without_text (record { why = why; told = told }) keeps
 
+-- what is said with nothing more is said so
+pub said_bare : (m : More) (r : Result Answered Refusal) → m ≡ nothing_more → IsSaid nothing_more r → IsSaid m r
+said_bare m r is said = subst (λ (n : More). IsSaid n r) (sym is) said
+
 -- ---- what was ordered
 
 module _ (held later : Held) (old new err_old err_new : Option (List ℕ)) (status : ℕ) where
@@ -51,15 +57,20 @@ module _ (held later : Held) (old new err_old err_new : Option (List ℕ)) (stat
   }
 
 module _ (named : Folders) (held later : Held) (old new err_old err_new : Option (List ℕ)) (status : ℕ) where
-  pub tested_as : (names : List (List ℕ)) (writes : Bool) (s : Settings) (r : Result ℕ Failure)
-      → DoesTest named held names writes s later old new r → Reports nothing_more err_old err_new r status
-      → TestsAll names writes s named held later old new err_old err_new status
-  tested_as names writes s r does reports = record { result = r; does = does; reports = reports }
+  -- nothing follows
+  bare : (r : Result ℕ Failure) (m : More) → m ≡ nothing_more → Reports m err_old err_new r status
+      → Reports nothing_more err_old err_new r status
+  bare r m is reports = subst (λ (n : More). Reports n err_old err_new r status) is reports
 
-  pub told_as : (names : List (List ℕ)) (writes : Bool) (s : Settings) (r : Result ℕ Failure)
-      → TellsTests named held names writes s later old new r → Reports nothing_more err_old err_new r status
+  pub tested_as : (names : List (List ℕ)) (writes : Bool) (s : Settings) (r : Result ℕ Failure) (m : More) → m ≡ nothing_more
+      → DoesTest named held names writes s later old new r → Reports m err_old err_new r status
+      → TestsAll names writes s named held later old new err_old err_new status
+  tested_as names writes s r m is does reports = record { result = r; does = does; reports = bare r m is reports }
+
+  pub told_as : (names : List (List ℕ)) (writes : Bool) (s : Settings) (r : Result ℕ Failure) (m : More) → m ≡ nothing_more
+      → TellsTests named held names writes s later old new r → Reports m err_old err_new r status
       → TellsTestsAs names writes s named held later old new err_old err_new status
-  told_as names writes s r does reports = record { result = r; does = does; reports = reports }
+  told_as names writes s r m is does reports = record { result = r; does = does; reports = bare r m is reports }
 
   -- one order is another
   pub ordered : (at_terminal : Bool) (o p : Order) → o ≡ p

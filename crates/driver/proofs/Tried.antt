@@ -91,12 +91,12 @@ module _ (named : Folders) (held later : Held) (names : List (List ℕ)) (writes
   pub object_untested : (mid : Held) (f : Failure) (name : List ℕ) → IsUntested named held names writes mid f → later ≡ mid
       → name ≡ failed_name f → IsToldAsObject (TellsFailure name [] f) old new
       → TellsTests named held names writes s later old new (Err f)
-  object_untested mid f name why same is told =
+  object_untested mid f name why same is shows =
       let known = untested_explained named held names writes later f
       (subst (λ (h : Held). IsUntested named held names writes h f) (sym same) why) in
       record {
         done = object_refused (ObjectOfTests named held names writes s later) (ExplainsTest named names) TellsUntested old new f
             known.0 (other_failure f known.1)
-            (subst (λ (n : List ℕ). IsToldAsObject (TellsFailure n [] f) old new) is told);
+            (subst (λ (n : List ℕ). IsToldAsObject (TellsFailure n [] f) old new) is shows);
         leaves = known.2;
       }

@@ -53,7 +53,10 @@ fn warns_by(action: Action, warn: Explain, at_terminal: bool) -> bool
     ensures { result ≡ is_warned action warn at_terminal }
 {
     match action {
-        Action::Answer(Command::Check) => warn.explains(at_terminal),
-        _ => false,
+        Action::Answer(command) => match command {
+            Command::Check => warn.explains(at_terminal),
+            _ => false,
+        },
+        Action::Rewrite => false,
     }
 }

@@ -1,7 +1,7 @@
 -- The JSON members of the lists among arguments.
-use Rattle.std.proofs.Common.{◌≡◌, ◌∷◌, ◌++◌, ◌+◌, ◌<◌, ℕ, List, [], Option, Some, None, Bor, String, Global}
+use Rattle.std.proofs.Common.{◌≡◌, ◌∷◌, ◌++◌, ◌+◌, ◌<◌, ◌≤◌, ℕ, List, [], Option, Some, None, Bor, String, Global}
 use Rattle.std.proofs.Common.{append_assoc, arith, refl, ap, ap₂, sym, ◌∙◌, length, map, drop, take, take_all, get_or}
-use Rattle.std.proofs.lemmas.List.{drop_all, drop_more}
+use Rattle.std.proofs.lemmas.List.{append-nil, drop_all, drop_more}
 use Rattle.std.proofs.lemmas.Str.Pattern.{split_once_first}
 use Rattle.std.specs.Prelude.{Bool}
 use Rattle.std.specs.List.{position_or_len}
@@ -58,3 +58,12 @@ module _ (words : List (String Global)) where
       ∙ ap (λ (t : List ℕ). text ++ t) (sym (one_before before list rest))
       ∙ ap (λ (o : Option (List ℕ)). text ++ members before (with_list o rest)) given
       ∙ ap (λ (ws : List (String Global)). text ++ members before (lists_from awaited (map string_bytes ws))) (sym here)
+
+  -- none is left after all arguments
+  pub all_added : (n : ℕ) (awaited : Bool) (before text whole : List ℕ) → length words ≤ n
+      → text ++ left n awaited before ≡ whole → text ≡ whole
+  all_added n awaited before text whole past added =
+      sym (append-nil text)
+      ∙ ap (λ (ws : List (String Global)). text ++ members before (lists_from awaited (map string_bytes ws)))
+      (sym (drop_all n words past))
+      ∙ added

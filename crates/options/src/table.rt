@@ -354,7 +354,8 @@ const EXPLORE_EXAMPLE: &str =
     "A choice is the number of the task that takes the next step. The tasks that can take one are numbered from 0 in
 depth-first order. A task can take a step unless it has ended or is waiting at a finish.
 
-Example: afx explore examples/two_arrays.afx --choices 0,0,1";
+Example: afx explore examples/two_arrays.afx --choices 0,0,1
+Example: afx explore examples/two_arrays.afx --html two_arrays.html";
 
 const VIEW_EXAMPLE: &str =
     "FILE and JSON are the program and the input of the traced run. The trace records its budget and its workers. A trace

@@ -1,7 +1,7 @@
 -- Programs, tested one after the other.
-use Rattle.std.proofs.Common.{◌≡◌, ℕ, ◌+◌, ◌<◌, List, [], ◌∷◌, ◌++◌, length, map, take, drop, get_or}
+use Rattle.std.proofs.Common.{◌≡◌, ℕ, ◌+◌, ◌<◌, ◌≤◌, List, [], ◌∷◌, ◌++◌, length, map, take, drop, get_or}
 use Rattle.std.proofs.Common.{append_assoc, arith, refl, sym, ap, ◌∙◌, subst, string_bytes}
-use Rattle.std.proofs.lemmas.List.{drop_more, map-append, take_more}
+use Rattle.std.proofs.lemmas.List.{drop_all, drop_more, map-append, take_more}
 use Rattle.std.specs.List.{flat_map}
 use Rattle.std.specs.Prelude.{Bool, true, false}
 use Rattle.command_line.specs.Requests.{Settings}
@@ -57,6 +57,11 @@ counted_so : (b : Bool) (n m : ℕ) → counted b n + m ≡ n + counted b m
 counted_so true n m = omega arith
 counted_so false n m = refl
 
+-- one more at most
+pub few_counted : (b : Bool) (n now i : ℕ) → now ≡ counted b n → n ≤ i → now ≤ i + 1
+few_counted true n now i is few = let more : now ≡ n + 1 = is in omega arith
+few_counted false n now i is few = let same : now ≡ n = is in omega arith
+
 module _ (ts : List rTested) where
   -- those from the n-th on
   abbrev pub left : (n : ℕ) → List Judged
@@ -66,12 +71,19 @@ module _ (ts : List rTested) where
   left_more n t d inside is =
       ap (map judged) (drop_more ts n d inside ∙ ap (λ (x : rTested). x ∷ drop (n + 1) ts) (sym is))
 
-  pub one_counted : (n passed more : ℕ) (t d : rTested) → n < length ts → t ≡ get_or ts n d
-      → more ≡ counted t.verdict.passes passed → passed_of (left (n + 1)) + more ≡ passed_of (left n) + passed
-  one_counted n passed more t d inside is counts =
+  pub one_counted : (n passed now : ℕ) (t d : rTested) → n < length ts → t ≡ get_or ts n d
+      → now ≡ counted t.verdict.passes passed → passed_of (left (n + 1)) + now ≡ passed_of (left n) + passed
+  one_counted n passed now t d inside is counts =
       ap (λ (m : ℕ). passed_of (left (n + 1)) + m) counts
       ∙ sym (counted_so t.verdict.passes (passed_of (left (n + 1))) passed)
       ∙ sym (ap (λ (js : List Judged). passed_of js + passed) (left_more n t d inside is))
+
+  -- all of them
+  pub all_counted : (n passed : ℕ) → length ts ≤ n → passed_of (left n) + passed ≡ passed_of (map judged ts)
+      → passed ≡ passed_of (map judged ts)
+  all_counted n passed all so_far =
+      let none : 0 + passed ≡ passed = omega arith in
+      sym none ∙ sym (ap (λ (xs : List rTested). passed_of (map judged xs) + passed) (drop_all n ts all)) ∙ so_far
 
   pub one_shown : (n : ℕ) (text longer : List ℕ) (t d : rTested) → n < length ts → t ≡ get_or ts n d
       → longer ≡ text ++ string_bytes t.verdict.lines

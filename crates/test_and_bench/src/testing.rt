@@ -17,6 +17,7 @@ use crate::runs::Runs;
 use crate::tests_object::tests_object;
 use crate::trial::{Tested, Trial};
 use command_line::request::RunOptions;
+use commands::memory::or_no_memory;
 use failures::failure::Failure;
 use files::file_source::FileSource;
 use json_answers::object_line::ObjectLine;
@@ -120,21 +121,18 @@ fn tested<R: Threads + Wait + Sync, F: FileSource, W: Runs>(
             settings: testing.settings,
         };
         let one = trial.tested(rt, testing.alloc, testing.runs, files, testing.writes)?;
-        add(&mut found, one)?;
+        or_no_memory(add(&mut found, one))?;
     }
     Ok(found)
 }
 
 /// Adds the result for one more program.
-fn add(found: &mut Vec<Tested>, one: Tested) -> Result<(), Failure>
-    ensures added { OnOk result (map judged found.new.items
+fn add(found: &mut Vec<Tested>, one: Tested) -> Result<(), AllocError>
+    ensures { OnOk result (map judged found.new.items
         ≡ map judged found.old.items ++ judged one ∷ []) }
-    ensures why { IfErr result (λ f. f ≡ Failure.NoMemory) }
 {
-    match found.push(one) {
-        Ok(()) => Ok(()),
-        Err(_) => Err(Failure::NoMemory),
-    }
+    found.push(one)?;
+    Ok(())
 }
 
 /// Returns the lines of these results, followed by how many passed and failed.

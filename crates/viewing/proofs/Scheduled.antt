@@ -58,7 +58,14 @@ module _ (s : Settings) (held : Held) (text : List ℕ) where
       → TellsNotBegun s held text f → Done (AnswersSchedules s held text) (ExplainsSchedules s held text) b b r
   schedules_not_begun b r f is told =
       passed_on (AnswersSchedules s held text) (ExplainsSchedules s held text) b r f is (explained f told)
-      (other_failure f (not_begun_other Run s held text b tt (λ code accepted. accepted) f told))
+      (other_failure f (not_begun_other Run tt s held text b (λ code accepted. accepted) f told))
+
+  -- no memory
+  pub schedules_without_memory : (b : Option (List ℕ)) (r : Result ℕ Failure) (f : Failure) → IsErrAnd r (λ y. y ≡ f)
+      → f ≡ NoMemory → Done (AnswersSchedules s held text) (ExplainsSchedules s held text) b b r
+  schedules_without_memory b r f is memory =
+      passed_on (AnswersSchedules s held text) (ExplainsSchedules s held text) b r f is
+      (subst (ExplainsSchedules s held text) (sym memory) tt) (other_failure f (subst IsOther (sym memory) tt))
 
   -- the page of a run that was begun
   pub schedules_page : (run : IsExplored s held text) (name : List ℕ) (t : JudgedTrace) (bytes : List ℕ)

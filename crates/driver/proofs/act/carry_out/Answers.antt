@@ -7,7 +7,7 @@ use Rattle.command_words.specs.Orders.{command_of, order}
 use Rattle.driver.specs.Acts.{in_short}
 use Rattle.driver.specs.Watching.{is_watched, is_watched_by}
 use Rattle.driver.specs.declared.doing.TextOrder.TheVariants.{Answering, Describing, Timing, TimingAsObject}
-use Rattle.driver.proofs.Ordered.{acted, ordered, tested_as, told_as}
+use Rattle.driver.proofs.Ordered.{acted, ordered, said_bare, tested_as, told_as}
 use Rattle.driver.proofs.Watched.{reported_watched, watched_as}
 use Rattle.driver.proofs.act.carry_out.Goals as goal
 
@@ -44,24 +44,37 @@ pub returns-in-Tests-clause-acts : goal.returns-in-Tests-clause-acts
 returns-in-Tests-clause-acts g c =
     let asked = asked_of c.in-Tests.request in
     ordered _ _ _ _ _ _ _ _ _ (Tests asked) (order c.args.order) (sym (ap order c.in-Tests.is))
-    (tested_as _ _ _ _ _ _ _ _ (asked.file ∷ []) false asked.settings (in_short c.test_one-done.result)
-    c.test_one-done.ensures.done c.report-in-Tests.ensures)
+    (tested_as _ _ _ _ _ _ _ _ (asked.file ∷ []) false asked.settings (in_short c.test_one-done.result) _
+    c.nothing.ensures c.test_one-done.ensures.done c.report-in-Tests.ensures)
 
 pub returns-in-TestsEach-clause-acts : goal.returns-in-TestsEach-clause-acts
 returns-in-TestsEach-clause-acts g c =
     let tests = c.in-TestsEach.tests in
     let names = map string_bytes tests.names.now in let s = settings tests.settings in
     ordered _ _ _ _ _ _ _ _ _ (TestsEach tests.writes names s) (order c.args.order) (sym (ap order c.in-TestsEach.is))
-    (tested_as _ _ _ _ _ _ _ _ names tests.writes s (in_short c.test_each-done.result) c.test_each-done.ensures.done
-    c.report-in-TestsEach.ensures)
+    (tested_as _ _ _ _ _ _ _ _ names tests.writes s (in_short c.test_each-done.result) _
+    c.nothing-in-TestsEach.ensures c.test_each-done.ensures.done c.report-in-TestsEach.ensures)
 
 pub returns-in-TestsAsObject-clause-acts : goal.returns-in-TestsAsObject-clause-acts
 returns-in-TestsAsObject-clause-acts g c =
     let tests = c.in-TestsAsObject.tests in
     let names = map string_bytes tests.names.now in let s = settings tests.settings in
     ordered _ _ _ _ _ _ _ _ _ (TestsAsObject tests.writes names s) (order c.args.order) (sym (ap order c.in-TestsAsObject.is))
-    (told_as _ _ _ _ _ _ _ _ names tests.writes s (in_short c.test_as_object-done.result) c.test_as_object-done.ensures.done
-    c.report-in-TestsAsObject.ensures)
+    (told_as _ _ _ _ _ _ _ _ names tests.writes s (in_short c.test_as_object-done.result) _
+    c.nothing-in-TestsAsObject.ensures c.test_as_object-done.ensures.done c.report-in-TestsAsObject.ensures)
+
+pub report-requires-in-Tests : goal.report-requires-in-Tests
+report-requires-in-Tests g c =
+    record { said = said_bare _ c.test_one-done.result c.nothing.ensures c.test_one-done.ensures.said }
+
+pub report-requires-in-TestsEach : goal.report-requires-in-TestsEach
+report-requires-in-TestsEach g c =
+    record { said = said_bare _ c.test_each-done.result c.nothing-in-TestsEach.ensures c.test_each-done.ensures.said }
+
+pub report-requires-in-TestsAsObject : goal.report-requires-in-TestsAsObject
+report-requires-in-TestsAsObject g c =
+    let done = c.test_as_object-done in
+    record { said = said_bare _ done.result c.nothing-in-TestsAsObject.ensures done.ensures.said }
 
 pub returns-in-AsText-clause-watched : goal.returns-in-AsText-clause-watched
 returns-in-AsText-clause-watched g c =

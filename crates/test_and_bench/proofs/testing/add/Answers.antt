@@ -3,6 +3,6 @@ use Rattle.std.proofs.lemmas.List.{map-append}
 use Rattle.test_and_bench.specs.Trials.{judged}
 use Rattle.test_and_bench.proofs.testing.add.Goals as goal
 
-pub returns-in-Ok-clause-added : goal.returns-in-Ok-clause-added
-returns-in-Ok-clause-added c =
-    ap (map judged) c.in-Ok.ensures.items ∙ map-append judged c.args.found.now.items (c.args.one ∷ [])
+pub returns : goal.returns
+returns c =
+    ap (map judged) c.in_ok-push.ensures.items ∙ map-append judged c.args.found.now.items (c.args.one ∷ [])

@@ -13,7 +13,7 @@ returns-in_err-programs-clause-why g c =
     let testing = c.args.testing.now in
     err_passed c.from_residual.result _
     (IsUntested (g.F.FolderSource.named c.args.files.now) (g.F.FileSource.held c.args.files.now)
-    (map string_bytes c.args.names.now) testing.writes (g.F.FileSource.held c.in_err-programs.new.files))
+    (map string_bytes c.args.names.now) testing.writes (g.F.FileSource.held c.programs_of.new.files))
     c.from_residual.ensures.1 (unlisted c.in_err-programs.ensures.why c.in_err-programs.ensures.keeps)
 
 pub returns-clause-results : goal.returns-clause-results

@@ -8,7 +8,7 @@ returns-in_err-tested-clause-why g c =
     let testing = c.args.testing.now in
     err_passed c.from_residual.result _
     (IsUntested (g.F.FolderSource.named c.args.files.now) (g.F.FileSource.held c.args.files.now)
-    (map string_bytes c.args.names.now) testing.writes (g.F.FileSource.held c.in_err-tested.new.files))
+    (map string_bytes c.args.names.now) testing.writes (g.F.FileSource.held c.results.new.files))
     c.from_residual.ensures.1 c.in_err-tested.ensures.why
 
 pub returns-in-Ok-clause-object : goal.returns-in-Ok-clause-object

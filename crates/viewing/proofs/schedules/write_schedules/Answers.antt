@@ -5,8 +5,8 @@ use Rattle.types.specs.Typed.{code_of}
 use Rattle.command_line.specs.Requests.{settings}
 use Rattle.commands.specs.declared.question.Begun.{Begun}
 use Rattle.commands.proofs.Answering.{answered, begun_so}
-use Rattle.viewing.specs.Views.{AnswersSchedules, ExplainsSchedules, IsSchedulesPage, ShowsSchedules, picture_name}
-use Rattle.viewing.proofs.Scheduled.{schedules_not_begun, schedules_page, schedules_unwritten}
+use Rattle.viewing.specs.Views.{AnswersSchedules, AreShown, ExplainsSchedules, IsSchedulesPage, ShowsSchedules, picture_name}
+use Rattle.viewing.proofs.Scheduled.{schedules_not_begun, schedules_page, schedules_unwritten, schedules_without_memory}
 use Rattle.viewing.proofs.Written.{unwritten, wrote, wrote_anyway}
 use Rattle.viewing.proofs.schedules.write_schedules.Goals as goal
 
@@ -14,6 +14,16 @@ pub returns-in_err-given-clause-done : goal.returns-in_err-given-clause-done
 returns-in_err-given-clause-done g c =
     schedules_not_begun (settings c.args.question.settings) (g.F.FileSource.held c.args.files.now) c.args.question.text.now _ _ _
     c.from_residual.ensures.1 c.in_err-given.ensures.why
+
+pub returns-in_err-shown-clause-done : goal.returns-in_err-shown-clause-done
+returns-in_err-shown-clause-done g c =
+    schedules_without_memory (settings c.args.question.settings) (g.F.FileSource.held c.args.files.now)
+    c.args.question.text.now _ _ _ c.from_residual-in_err-shown.ensures.1 c.in_err-shown.ensures.why
+
+pub returns-in_err-page-clause-done : goal.returns-in_err-page-clause-done
+returns-in_err-page-clause-done g c =
+    schedules_without_memory (settings c.args.question.settings) (g.F.FileSource.held c.args.files.now)
+    c.args.question.text.now _ _ _ c.from_residual-in_err-page.ensures.1 c.in_err-page.ensures.why
 
 pub returns-in_err-write_file-clause-done : goal.returns-in_err-write_file-clause-done
 returns-in_err-write_file-clause-done g c =
@@ -47,7 +57,9 @@ returns-clause-page g c =
     let text = c.args.question.text.now in let name = c.args.program.now in
     let t = c.in_ok-shown.shown in
     let given = IfOk-at_ok _ c.in_ok-shown.ensures.value c.shown_of.ensures.given in
-    let are_shown = IfOk-at_ok _ c.in_ok-shown.ensures.value c.shown_of.ensures.shown in
+    let are_shown = subst
+    (λ (b : Begun). AreShown (code_of b.accepted.typed) (lists_in b.input) t.trace.header t.trace.events.items) (sym given)
+    (IfOk-at_ok _ c.in_ok-shown.ensures.value c.shown_of.ensures.shown) in
     let shows = subst (λ (bytes : List ℕ). ShowsSchedules name text t bytes) (sym c.as_bytes.ensures.value)
     (IfOk-at_ok _ c.in_ok-page.ensures.value c.page_of_shown.ensures) in
     wrote_anyway (picture_name s) (IsSchedulesPage name s held text) held _ c.answer.result
