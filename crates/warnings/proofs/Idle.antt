@@ -17,6 +17,7 @@ module _ (p : Program) (subject : Subject) where
     nothing_of s x lacks (PendingOf.inner {x = y} (Inner.split {b = b}) pending is) = nothing_in b y lacks pending
     nothing_of s x lacks (PendingOf.inner {x = y} (Inner.parts {b = b}) pending is) = nothing_in b y lacks pending
     nothing_of s x lacks (PendingOf.inner Inner.call pending is) = true≢false lacks
+    nothing_of s x lacks (PendingOf.inner {x = y} (Inner.handler {c = c}) pending is) = nothing_in c y lacks pending
     nothing_of (Async b) x lacks (PendingOf.async all) = true≢false lacks
 
     nothing_in : (b : Codes) (x : subject.Item) → block_may_leave b ≡ false → Pending p subject b x → ⊥

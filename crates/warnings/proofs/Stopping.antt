@@ -5,12 +5,13 @@ use Rattle.sections.specs.Place.{Place, sides_of, has_piece}
 use Rattle.types.specs.declared.fault.FaultKind.{FaultKind}
 use Rattle.types.specs.declared.fault.FaultKind.TheVariants.{SplitPoint, PieceSize, Raised}
 use Rattle.types.specs.Code.{Truth, Constant, Compare, Not, Both, Either, Primitive, Skip, Assign, Store, Print, Raise}
-use Rattle.types.specs.Code.{Code, Do, If, While, Split, Parts, Begun, Call, Async, Finish, Codes, End, Then, Program}
+use Rattle.types.specs.Code.{Code, Do, If, While, Split, Parts, Begun, Call, Async, Finish, Rescue, Codes, End, Then}
+use Rattle.types.specs.Code.{Program}
 use Rattle.types.specs.Value.{Valued, element_of, holds_number}
 use Rattle.types.specs.Run.{Flow, On, Faulted, Stopped, Fault, State, Work, Rules, Block, Turn, Pieces, at_flow, go_on}
 use Rattle.types.specs.Run.{spend, in_turn, piece_size, with_step, fault, with_value, assign, print, put, choose, number_at}
 use Rattle.types.specs.Run.{numbers_at, truth_at, window_at, entry, with_sides, array_of, procedure_of, primitive, counted}
-use Rattle.types.specs.Run.{act, block, work, within}
+use Rattle.types.specs.Run.{act, block, caught, rescued_by, work, within}
 use Rattle.types.specs.Meaning.{after_async, after_finish, begin_one, hushed, one, one_rules_by}
 use Rattle.warnings.specs.Ends.{block_stops, is_always, is_fault, is_never, stops}
 
@@ -92,6 +93,13 @@ finish_tells Faulted before [] is = absurd (on_faulted is)
 finish_tells Faulted before (g ∷ gs) is = behind_some before (g ∷ gs) (λ e. cc)
 finish_tells Stopped before faults is = absurd (stopped_faulted is)
 
+-- nor does a finish whose handler doesn't
+rescue_tells : (f : Flow) (x : ℕ) (go : S → S) (before : List Fault) (out : S) → out.flow ≡ f
+    → Tells (go (caught x before out)) → Tells (rescued_by f x go before out)
+rescue_tells On x go before out is handled = on_tells out is
+rescue_tells Faulted x go before out is handled = handled
+rescue_tells Stopped x go before out is handled over = absurd (stopped_faulted (sym is ∙ over))
+
 -- and an async never does
 async_tells : (f : Flow) → after_async f ≡ Faulted → ⊥
 async_tells On is = on_faulted is
@@ -127,6 +135,12 @@ finish_over Faulted [] over tells = absurd (tells refl refl)
 finish_over Faulted (g ∷ gs) over tells = faulted_on
 finish_over Stopped faults over tells = stopped_on
 
+rescue_over : (f : Flow) (x : ℕ) (go : S → S) (before : List Fault) (out : S) → out.flow ≡ f → IsOver out
+    → IsOver (go (caught x before out)) → IsOver (rescued_by f x go before out)
+rescue_over On x go before out is over handled = absurd (over is)
+rescue_over Faulted x go before out is over handled = handled
+rescue_over Stopped x go before out is over handled e = stopped_on (sym is ∙ e)
+
 module _ (p : Program) (begin : Codes → S → S) (begun : (b : Codes) (st : S) → Tells (begin b st)) where
   abbrev r : Rules (Unit {0})
   r = one_rules_by begin
@@ -158,6 +172,7 @@ module _ (p : Program) (begin : Codes → S → S) (begun : (b : Codes) (st : S)
   counted_on l (Call f es ss) st on = on
   counted_on l (Async b) st on = on
   counted_on l (Finish b) st on = on
+  counted_on l (Rescue b x c) st on = on
 
   module _ (d : Work → S → S) (h : (w : Work) (st : S) → st.flow ≡ On → Tells (d w st)) where
     mutual
@@ -185,6 +200,9 @@ module _ (p : Program) (begin : Codes → S → S) (begun : (b : Codes) (st : S)
           h (Block (procedure_of p f).body) (record st { environment = entry vs (map (window_at st) ss) }) on)
       act_tells (Async b) l st on = begun b st
       act_tells (Finish b) l st on = finish_tells _ st.faults (block p r d b (hushed st)).faults
+      act_tells (Rescue b x c) l st on =
+          let out = r.leave st (block p r d b (hushed st)) in
+          rescue_tells out.flow x (block p r d c) st.faults out refl (block_tells c (caught x st.faults out) refl)
 
       block_tells : (b : Codes) (st : S) → st.flow ≡ On → Tells (block p r d b st)
       block_tells End st on = on_tells st on
@@ -275,6 +293,14 @@ module _ (p : Program) (begin : Codes → S → S) (begun : (b : Codes) (st : S)
         act_over (Async b) l st is on = absurd (true≢false (sym is))
         act_over (Finish b) l st is on =
             finish_over _ (block p r d b (hushed st)).faults (block_over b (hushed st) is on) (block_tells b (hushed st) on)
+        act_over (Rescue b x c) l st is on =
+            let first = both_first (block_stops b) (block_stops c) is in
+            let second = both_second (block_stops b) (block_stops c) is in
+            let inside = block p r d b (hushed st) in
+            let out = r.leave st inside in
+            rescue_over out.flow x (block p r d c) st.faults out refl
+            (finish_over inside.flow inside.faults (block_over b (hushed st) first on) (block_tells b (hushed st) on))
+            (block_over c (caught x st.faults out) second refl)
 
         block_over : (b : Codes) (st : S) → block_stops b ≡ true → st.flow ≡ On → IsOver (block p r d b st)
         block_over End st is on = absurd (true≢false (sym is))

@@ -2,7 +2,7 @@
 use Rattle.std.specs.Prelude.{Bool, true, false, not, ◌&&◌, ◌||◌, if◌then◌else◌}
 use Rattle.types.specs.Code.{Truth, Constant, Compare, Not, Both, Either, Primitive, Skip, Assign, Store}
 use Rattle.types.specs.Code.{Print, Raise}
-use Rattle.types.specs.Code.{Code, Do, If, While, Split, Parts, Begun, Call, Async, Finish, Codes, End, Then}
+use Rattle.types.specs.Code.{Code, Do, If, While, Split, Parts, Begun, Call, Async, Finish, Rescue, Codes, End, Then}
 
 -- a guard is the constant `true`, or `false`
 abbrev pub is_always : Truth → Bool
@@ -38,13 +38,14 @@ abbrev mutual
   stops (Call f es ss) = false
   stops (Async b) = false
   stops (Finish b) = block_stops b
+  stops (Rescue b x c) = block_stops b && block_stops c
 
   pub block_stops : Codes → Bool
   block_stops End = false
   block_stops (Then l s rest) = stops s || block_stops rest
 
 abbrev mutual
-  -- a finish around it may wait for a task: it has an async outside of inner finishes, or a call
+  -- a finish around it may wait for a task: it has an async outside of the bodies of inner finishes, or a call
   pub may_leave : Code → Bool
   may_leave (Do p) = false
   may_leave (If t b c) = block_may_leave b || block_may_leave c
@@ -55,6 +56,7 @@ abbrev mutual
   may_leave (Call f es ss) = true
   may_leave (Async b) = true
   may_leave (Finish b) = false
+  may_leave (Rescue b x c) = block_may_leave c
 
   pub block_may_leave : Codes → Bool
   block_may_leave End = false

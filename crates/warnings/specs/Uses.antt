@@ -4,7 +4,7 @@ use Rattle.std.specs.List.{list_any}
 use Rattle.types.specs.Code.{Number, Literal, Scalar, Element, Length, Negative, Chain, Links, Done, Link}
 use Rattle.types.specs.Code.{Truth, Constant, Compare, Not, Both, Either, Truths, NoMore, Also, Primitive}
 use Rattle.types.specs.Code.{Skip, Assign, Store, Print, Raise, Code, Do, If, While, Split, Parts, Begun, Call}
-use Rattle.types.specs.Code.{Async, Finish, Codes, End, Then}
+use Rattle.types.specs.Code.{Async, Finish, Rescue, Codes, End, Then}
 use Rattle.warnings.specs.declared.uses.Thing.{Thing}
 use Rattle.warnings.specs.declared.uses.Thing.TheVariants.{ScalarIn, SectionOf, ProcedureOf}
 
@@ -78,6 +78,7 @@ abbrev mutual
   code_uses t (Call f es ss) = is_procedure t f || (numbers_use t es || sections_use t ss)
   code_uses t (Async b) = codes_use t b
   code_uses t (Finish b) = codes_use t b
+  code_uses t (Rescue b x c) = codes_use t b || codes_use t c
 
   pub codes_use : Thing → Codes → Bool
   codes_use t End = false

@@ -8,7 +8,8 @@ use Rattle.syntax_tree.specs.Tree.{Written, Read, Scalar as ScalarParameter}
 use Rattle.syntax_tree.specs.declared.tree.ElementType.{ElementType}
 use Rattle.types.specs.Code.{Number, Literal, Scalar, Element, Length, Negative, Chain}
 use Rattle.types.specs.Code.{Primitive, Skip, Assign, Store, Print, Raise}
-use Rattle.types.specs.Code.{Code, Do, If, While, Split, Parts, Begun, Call, Async, Finish, Codes, End, Then}
+use Rattle.types.specs.Code.{Code, Do, If, While, Split, Parts, Begun, Call, Async, Finish, Rescue, Codes}
+use Rattle.types.specs.Code.{End, Then}
 use Rattle.types.specs.Code.{Parameter, Procedure, Program}
 use Rattle.types.specs.Value.{holds_number}
 use Rattle.warnings.specs.Ends.{block_may_leave, is_always, is_lone_task, is_never, stops}
@@ -71,7 +72,7 @@ abbrev pub finish_warnings : (label : ℕ) → Codes → List Warning
 finish_warnings l b =
     if is_lone_task b then LoneTask l ∷ [] else warn_if (not (block_may_leave b)) (IdleFinish l)
 
--- those of a statement, without those inside
+-- those of a statement, without those inside; a finish with a handler is there for faults, too
 abbrev pub own_warnings : Procedure → (label : ℕ) → Code → List Warning
 own_warnings f l (Do p) = step_warnings f l p
 own_warnings f l (Finish b) = finish_warnings l b
@@ -82,6 +83,7 @@ own_warnings f l (Parts s e q i b) = []
 own_warnings f l (Begun s n k q i b) = []
 own_warnings f l (Call g es ss) = []
 own_warnings f l (Async b) = []
+own_warnings f l (Rescue b x c) = []
 
 abbrev mutual
   -- those inside a statement
@@ -95,6 +97,7 @@ abbrev mutual
   inner_warnings f (Call g es ss) = []
   inner_warnings f (Async b) = block_warnings f false b
   inner_warnings f (Finish b) = block_warnings f false b
+  inner_warnings f (Rescue b x c) = block_warnings f false b ++ block_warnings f false c
 
   -- those of a block, whose first statement isn't reached if it is dead: no run reaches the statement after
   -- one that stops its task

@@ -67,6 +67,7 @@ pub fn stops(kind: &StmtKind) -> bool
         StmtKind::Call { .. } => false,
         StmtKind::Async { .. } => false,
         StmtKind::Finish { body } => block_stops(body),
+        StmtKind::Rescue { body, handler, .. } => block_stops(body) & block_stops(handler),
     }
 }
 
@@ -83,8 +84,8 @@ fn block_stops(block: &[Stmt]) -> bool
     false
 }
 
-/// Returns whether a finish around a statement may wait for a task: it has an async outside of inner
-/// finishes, or a call.
+/// Returns whether a finish around a statement may wait for a task: it has an async outside of the
+/// bodies of inner finishes, or a call.
 #[cycle(leaves)]
 fn may_leave(kind: &StmtKind) -> bool
     ensures { result ≡ leaves (plain_code kind.now) }
@@ -98,6 +99,7 @@ fn may_leave(kind: &StmtKind) -> bool
         StmtKind::Call { .. } => true,
         StmtKind::Async { .. } => true,
         StmtKind::Finish { .. } => false,
+        StmtKind::Rescue { handler, .. } => block_may_leave(handler),
     }
 }
 

@@ -249,6 +249,11 @@ fn push_inner(scope: Scope<'_>, kind: &StmtKind, found: &mut Vec<Warning>) -> Re
             push_block(scope, false, body, found)?;
             Ok(())
         }
+        StmtKind::Rescue { body, handler, .. } => {
+            push_block(scope, false, body, found)?;
+            push_block(scope, false, handler, found)?;
+            Ok(())
+        }
     }
 }
 
@@ -272,6 +277,7 @@ fn push_own(
         StmtKind::Parts { .. } => Ok(()),
         StmtKind::Call { .. } => Ok(()),
         StmtKind::Async { .. } => Ok(()),
+        StmtKind::Rescue { .. } => Ok(()),
     }
 }
 

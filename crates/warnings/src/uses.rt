@@ -200,5 +200,8 @@ fn statement_uses(thing: Thing, kind: &StmtKind) -> bool
         }
         StmtKind::Async { body } => block_uses(thing, body),
         StmtKind::Finish { body } => block_uses(thing, body),
+        StmtKind::Rescue { body, handler, .. } => {
+            block_uses(thing, body) | block_uses(thing, handler)
+        }
     }
 }

@@ -1,9 +1,11 @@
 use Rattle.std.proofs.Common.{◌++◌, ap, arith, refl, ◌∙◌, sym}
 use Rattle.std.specs.Prelude.{false}
 use Rattle.types.specs.Translation.{codes, code as plain_code, procedure, truth}
-use Rattle.types.proofs.Blocks.{code_Async, code_Finish, code_If, code_Parts, code_Split, code_While}
+use Rattle.types.proofs.Blocks.{code_Async, code_Finish, code_If, code_Parts, code_Rescue, code_Split}
+use Rattle.types.proofs.Blocks.{code_While}
 use Rattle.effects.proofs.Appending.{in_two_steps}
-use Rattle.effects.proofs.Statements.{codes_at, is_Async, is_Finish, is_If, is_Parts, is_Split, is_While, size, size-drop, size_in}
+use Rattle.effects.proofs.Statements.{codes_at, is_Async, is_Finish, is_If, is_Parts, is_Rescue, is_Split, is_While, size}
+use Rattle.effects.proofs.Statements.{size-drop, size_in}
 use Rattle.warnings.specs.Ends.{is_always, is_never}
 use Rattle.warnings.specs.Warnings.{block_warnings, inner_warnings}
 use Rattle.warnings.proofs.Found.{one_statement}
@@ -57,6 +59,18 @@ push_inner-push_block-requires-in-Async t c =
 pub push_inner-push_block-requires-in-Finish : goal.push_inner-push_block-requires-in-Finish
 push_inner-push_block-requires-in-Finish t c =
     let is = is_Finish _ c.in-Finish.body c.deref-in-Finish.result.now c.in-Finish.is c.deref-in-Finish.ensures.value in
+    (omega (arith, ap size_in is), c.requires)
+
+pub push_inner-push_block-requires-in-Rescue : goal.push_inner-push_block-requires-in-Rescue
+push_inner-push_block-requires-in-Rescue t c =
+    let is = is_Rescue _ c.in-Rescue.body c.in-Rescue.faults c.in-Rescue.handler c.deref-in-Rescue.result.now
+    c.in-Rescue.handler.items c.in-Rescue.is c.deref-in-Rescue.ensures.value refl in
+    (omega (arith, ap size_in is), c.requires)
+
+pub push_inner-push_block-requires-in-Rescue-2 : goal.push_inner-push_block-requires-in-Rescue-2
+push_inner-push_block-requires-in-Rescue-2 t c =
+    let is = is_Rescue _ c.in-Rescue.body c.in-Rescue.faults c.in-Rescue.handler c.in-Rescue.body.items
+    c.deref-in-Rescue-2.result.now c.in-Rescue.is refl c.deref-in-Rescue-2.ensures.value in
     (omega (arith, ap size_in is), c.requires)
 
 pub push_inner-returns-in_ok-push_block-in-If-2 : goal.push_inner-returns-in_ok-push_block-in-If-2
@@ -113,3 +127,16 @@ push_inner-returns-in_ok-push_block-in-Finish t c =
     c.in_ok-push_block-in-Finish.ensures
     ∙ ap (λ b. before ++ block_warnings f false (codes b)) c.deref-in-Finish.ensures.value
     ∙ ap (λ k. before ++ inner_warnings f k) (sym (ap plain_code c.in-Finish.is ∙ code_Finish c.in-Finish.body))
+
+pub push_inner-returns-in_ok-push_block-in-Rescue-2 : goal.push_inner-returns-in_ok-push_block-in-Rescue-2
+push_inner-returns-in_ok-push_block-in-Rescue-2 t c =
+    let f = procedure c.args.scope.procedure.now in
+    let before = c.args.found.now.items in
+    let first = c.push_block-in-Rescue.new.found.items in
+    in_two_steps before first _ _ _ _
+    (c.in_ok-push_block-in-Rescue.ensures
+    ∙ ap (λ b. before ++ block_warnings f false (codes b)) c.deref-in-Rescue.ensures.value)
+    (c.in_ok-push_block-in-Rescue-2.ensures
+    ∙ ap (λ b. first ++ block_warnings f false (codes b)) c.deref-in-Rescue-2.ensures.value)
+    (ap (inner_warnings f)
+    (ap plain_code c.in-Rescue.is ∙ code_Rescue c.in-Rescue.body c.in-Rescue.faults c.in-Rescue.handler))

@@ -1,7 +1,7 @@
 use Rattle.std.proofs.Common.{ap, map, sym, ◌∙◌}
 use Rattle.sections.specs.Translation.{section}
 use Rattle.types.specs.Translation.{codes, code as plain_code, number}
-use Rattle.types.proofs.Blocks.{code_Async, code_Finish, code_If, code_Parts, code_Split, code_While}
+use Rattle.types.proofs.Blocks.{code_Async, code_Finish, code_If, code_Parts, code_Rescue, code_Split, code_While}
 use Rattle.warnings.specs.Uses.{code_uses, codes_use, numbers_use, sections_use}
 use Rattle.warnings.proofs.Bools.{or_of}
 use Rattle.warnings.proofs.uses.+statement.Goals as goal
@@ -56,3 +56,11 @@ statement_uses-returns-in-Finish t c =
     let x = c.args.thing in
     c.block_uses-in-Finish.ensures ∙ ap (λ b. codes_use x (codes b)) c.deref-in-Finish.ensures.value
     ∙ sym (ap (code_uses x) (ap plain_code c.in-Finish.is ∙ code_Finish c.in-Finish.body))
+
+pub statement_uses-returns-in-Rescue : goal.statement_uses-returns-in-Rescue
+statement_uses-returns-in-Rescue t c =
+    let x = c.args.thing in
+    let is = ap plain_code c.in-Rescue.is ∙ code_Rescue c.in-Rescue.body c.in-Rescue.faults c.in-Rescue.handler in
+    or_of _ _ _ _ (c.block_uses-in-Rescue.ensures ∙ ap (λ b. codes_use x (codes b)) c.deref-in-Rescue.ensures.value)
+    (c.block_uses-in-Rescue-2.ensures ∙ ap (λ b. codes_use x (codes b)) c.deref-in-Rescue-2.ensures.value)
+    ∙ sym (ap (code_uses x) is)
