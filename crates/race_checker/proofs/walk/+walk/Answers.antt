@@ -287,8 +287,8 @@ found_of-found_in-requires-in-Rescue-2 g t c κs within =
     let stands = stands_handler _ _ _ _ c.requires.stands _ _ _ is in
     (omega (arith, ap size_in is), (within, (search (sendable, crosses) depth 40, (c.requires.sound, (c.requires.summaries, (c.requires.procedure, stands))))))
 
-pub found_of-returns-in-Rescue : goal.found_of-returns-in-Rescue
-found_of-returns-in-Rescue g t c =
+pub found_of-returns : goal.found_of-returns
+found_of-returns g t c =
     let is = is_Rescue _ c.in-Rescue.body c.in-Rescue.faults c.in-Rescue.handler c.deref-in-Rescue.result.now c.deref-in-Rescue-2.result.now c.in-Rescue.is
     c.deref-in-Rescue.ensures.value c.deref-in-Rescue-2.ensures.value in
     let e = c.in_finish-in-Rescue.ensures in
