@@ -7,7 +7,7 @@ use Rattle.std.proofs.lemmas.List.{get_or-drop, get_or-set_other, get_or-take, l
 use Rattle.std.proofs.Math.ListN.{get_or-append}
 use Rattle.std.proofs.Math.Seq.{get_or-append_seam}
 use Rattle.std.proofs.lemmas.Option.{slice_get_past, slice_get-get_or}
-use Rattle.std.specs.Prelude.{◌&&◌, drop, nat_eq, nat_le, nat_lt, slice_get, slice_range, take, if◌then◌else◌}
+use Rattle.std.specs.Prelude.{◌&&◌, drop, nat_eq, nat_le, nat_lt, slice_get, slice_range, if◌then◌else◌}
 use Rattle.blocks.specs.Numbers.{row_from}
 use Rattle.blocks.specs.Offsets.{inside}
 
@@ -114,10 +114,7 @@ row_from-push first xs x o at k = by_eq (nat_eq o k) refl
 
 -- the number of elements of a range
 pub length-range : {A : Type 0} (xs : List A) (a b : ℕ) → b ≤ length xs → length (slice_range xs a b) ≡ b - a
-length-range xs a b le = length-take-le (b - a) (drop a xs) few
-  where
-    few : b - a ≤ length (drop a xs)
-    few = simp length-drop (omega (arith, le))
+length-range xs a b le = length-take-le (b - a) (drop a xs) (omega (arith, le, length-drop a xs))
 
 -- the elements at the offsets of a range
 pub row_from-range : {A : Type 0} (first : ℕ) (xs : List A) (from to : ℕ) (d : A) → first ≤ from → from < to

@@ -105,7 +105,8 @@ impl Numbers {
     {
         let (start, end) = (from - self.first, to - self.first);
         let list = Vec::from_slice(alloc, &self.list[start..end])?;
-        let copied = list.len() as u64;
-        Ok((Numbers { first: from, list }, copied))
+        let copied = list.len();
+        let numbers = Numbers { first: from, list };
+        Ok((numbers, copied as u64))
     }
 }

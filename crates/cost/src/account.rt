@@ -101,7 +101,8 @@ impl Account {
     {
         let chain = std::mem::replace(&mut self.here, by_label);
         lengthen(&mut self.ended, self.tally.ended, chain, self.tally.here);
-        self.tally.end_task(here, along)
+        self.tally.end_task(here, along)?;
+        Ok(())
     }
 
     /// Counts the step of a finish, and starts the finish.

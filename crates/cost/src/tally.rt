@@ -1,7 +1,8 @@
 //! The work so far in a run, and the length of its chains.
 
 ghost use Rattle.std.specs.Prelude.{◌≡◌, ◌+◌, IfOk, OnOk};
-ghost use Rattle.cost.specs.Costs.{as_small as small_by, begins_task, ends_task, enters_finish, leaves_finish, one_more};
+ghost use Rattle.cost.specs.Costs.{as_small as small_by, begins_task, ends_task, enters_finish};
+ghost use Rattle.cost.specs.Costs.{leaves_finish, one_more};
 
 use std::alloc::AllocError;
 

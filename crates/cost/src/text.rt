@@ -73,7 +73,8 @@ fn push_advice(text: &mut String, cost: &Cost) -> Result<(), AllocError>
     if are_too_fine(cost) {
         text.push_str(
             "help: most tasks are too small to pay; stop dividing sooner, or take larger pieces\n",
-        )
+        )?;
+        Ok(())
     } else {
         Ok(())
     }

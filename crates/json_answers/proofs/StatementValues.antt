@@ -107,8 +107,11 @@ shares_have_none c s work span =
           (
             refl,
             (
-              numbered_has_none (share_json s work span) (share_has_none s work span) 0 s.places.items,
-              (refl, (refl, (refl, tt))),
+              refl,
+              (
+                numbered_has_none (share_json s work span) (share_has_none s work span) 0 s.places.items,
+                (refl, (refl, (refl, tt))),
+              ),
             ),
           ),
         ),
@@ -177,8 +180,11 @@ shares_within c s work span =
           (
             omega arith,
             (
-              list_of_within 1 (share_json s work span) s (share_within s work span),
-              (omega arith, (omega arith, (omega arith, tt))),
+              omega arith,
+              (
+                list_of_within 1 (share_json s work span) s (share_within s work span),
+                (omega arith, (omega arith, (omega arith, tt))),
+              ),
             ),
           ),
         ),

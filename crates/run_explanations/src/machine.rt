@@ -147,7 +147,8 @@ impl<'p> RepeatedRun<'p> {
         }
         self.seen.many = before;
         self.seen.faults.truncate(before.min(MOST_FAULTS) as usize);
-        self.thread.environment.assign(slot, number as i64)?;
+        let number = i64::try_from(number).unwrap_or(i64::MAX);
+        self.thread.environment.assign(slot, number)?;
         self.enter(handler)
     }
 

@@ -39,7 +39,7 @@ times_have_none t c =
           refl,
           (
             or_null_has_none five_json t.on_two five_has_none,
-            (refl, (refl, (refl, (refl, (refl, (refl, tt)))))),
+            (refl, (refl, (refl, (refl, (refl, (refl, (refl, tt))))))),
           ),
         ),
       ),
@@ -59,7 +59,10 @@ times_within t c =
           five_within t.on_one,
           (
             or_null_within 1 five_json t.on_two five_within,
-            (five_within t.serial, (omega arith, (omega arith, (omega arith, (omega arith, (omega arith, tt)))))),
+            (
+              five_within t.serial,
+              (omega arith, (omega arith, (omega arith, (omega arith, (omega arith, (omega arith, tt)))))),
+            ),
           ),
         ),
       ),

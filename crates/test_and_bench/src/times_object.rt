@@ -26,12 +26,16 @@ pub fn times_object(alloc: Global, timed: &Timed, cost: &Cost) -> Result<String,
 fn timed_value(alloc: Global, timed: &Timed, cost: &Cost) -> Result<Value, AllocError>
     ensures { IfOk result (λ v. view v ≡ times_json timed.now cost.now) }
 {
+    let on_all = value_if(alloc, timed.on_all)?;
+    let on_one = value_of(alloc, timed.on_one)?;
+    let on_two = value_if(alloc, timed.on_two)?;
+    let serial = value_of(alloc, timed.serial)?;
     json!(in alloc; {
         "copied_places": cost.copied,
-        "on_all": value_if(alloc, timed.on_all)?,
-        "on_one": value_of(alloc, timed.on_one)?,
-        "on_two": value_if(alloc, timed.on_two)?,
-        "serial": value_of(alloc, timed.serial)?,
+        "on_all": on_all,
+        "on_one": on_one,
+        "on_two": on_two,
+        "serial": serial,
         "small_tasks": cost.small,
         "span": cost.span,
         "status": 0u8,

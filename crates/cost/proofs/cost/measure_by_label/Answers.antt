@@ -22,7 +22,7 @@ returns-clause-outcome c =
 pub returns-clause-cost : goal.returns-clause-cost
 returns-clause-cost c =
     let lists = input c.args.input.now in
-    c.of.ensures
+    c.in_ok-of.ensures
     ∙ ap (λ (s : Standing). cost_of s.state.extra.tally) c.in_ok-machine.ensures.stands
     ∙ ap cost_of (tally-account_of (program c.code.result.now) c.args.rows lists (budget c.args.budget))
     ∙ ap (λ (q : Program). cost_of (tally_of q lists (budget c.args.budget))) c.code.ensures.code

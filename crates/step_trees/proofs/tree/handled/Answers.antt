@@ -21,7 +21,7 @@ returns c =
     record k.environment { scalars = bind c.args.handler.faults.number z k.environment.scalars } in
     let few : length v.items < 2 ^ 63 = omega (arith, v.ok.0, v.ok.1, v.small) in
     let number : c.len-number.result ≡ length k.faults
-    = omega (arith, c.len-number.ensures, v.ok.0, length-map fault v.items) in
+    = omega (arith, c.len-number.ensures, v.ok.0, length-map v.items fault) in
     let small : c.len-number.result < 2 ^ 63 = omega (arith, c.len-number.ensures, v.ok.0, few) in
     let start = bound (pos (length k.faults)) in
     c.returned.ensures

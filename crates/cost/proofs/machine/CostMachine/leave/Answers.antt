@@ -72,8 +72,8 @@ returns-in_ok-push-in-EndCall-clause-does c =
           ap (λ (e : Environment). resume p fresh (stack m) (standing m.account (record m.thread { environment = e }))) is;
     })
 
-pub returns-in_ok-end_task-in_ok-tell_before-in-EndAsync-clause-does : goal.returns-in_ok-end_task-in_ok-tell_before-in-EndAsync-clause-does
-returns-in_ok-end_task-in_ok-tell_before-in-EndAsync-clause-does c =
+pub returns-in_ok-end_task-in-EndAsync-clause-does : goal.returns-in_ok-end_task-in-EndAsync-clause-does
+returns-in_ok-end_task-in-EndAsync-clause-does c =
     let m = c.args.self.now in let p = program m.plan.program.now in let fresh = m.plan.budget.steps in
     let box = c.in-EndAsync.owner in let q = c.into_inner-owner.result in
     let unboxed = c.into_inner-owner.ensures in
@@ -124,13 +124,13 @@ returns-in_ok-end_task-in_ok-tell_before-in-EndAsync-clause-does c =
       };
       comes =
           ap (λ (s : State (Unit {0})). resume p fresh (stack m) (at s s.flow (account kept))) (told_before q.told old thread told)
-          ∙ ap (λ (y : Account). resume p fresh (stack m) (at st (flow c.behind_async-self.result) y)) c.in_ok-end_task.ensures
+          ∙ ap (λ (y : Account). resume p fresh (stack m) (at st (flow c.behind_async-self.result) y)) c.in_ok-end_task-in-EndAsync.ensures
           ∙ ap (λ (f : Flow). resume p fresh (stack m) (at st f (ends_behind q.here q.along q.here_by_label.items (account m.account)))) c.behind_async-self.ensures
           ∙ ap (λ (o : OwnerCosts). resume p fresh (stack m) (after_owner o s.state)) unboxed;
     })
 
-pub returns-in_ok-end_task-in_ok-tell_before-in-EndAsync-clause-ends : goal.returns-in_ok-end_task-in_ok-tell_before-in-EndAsync-clause-ends
-returns-in_ok-end_task-in_ok-tell_before-in-EndAsync-clause-ends c =
+pub returns-in_ok-end_task-in-EndAsync-clause-ends : goal.returns-in_ok-end_task-in-EndAsync-clause-ends
+returns-in_ok-end_task-in-EndAsync-clause-ends c =
     let m = c.args.self.now in let fresh = m.plan.budget.steps in
     omega (
       arith,
