@@ -14,7 +14,7 @@ returns-in-Some-Lists-clause-begins g c =
     let held = g.F.FileSource.held c.args.files.now in
     let arrays = (code_of c.args.typed.now).arrays in
     let words = map string_bytes c.in-Some-Lists.words.now in
-    let named : option_map source c.args.source.entry ≡ Some (FromLists words) = search rules in
+    let named : option_map source c.args.source ≡ Some (FromLists words) = search rules in
     subst (λ from. IfOk c.lists_in.result (λ i. BeginsWith from held arrays (lists_of i))) (sym named)
     (IfOk-weaker c.lists_in.result _ _ (λ i says. said held (FromLists words) (lists_text words) arrays _ refl says)
     c.lists_in.ensures.says)
@@ -24,7 +24,7 @@ returns-in-Some-Lists-clause-why g c =
     let held = g.F.FileSource.held c.args.files.now in
     let arrays = (code_of c.args.typed.now).arrays in
     let words = map string_bytes c.in-Some-Lists.words.now in
-    let named : option_map source c.args.source.entry ≡ Some (FromLists words) = search rules in
+    let named : option_map source c.args.source ≡ Some (FromLists words) = search rules in
     subst (λ from. IfErr c.lists_in.result (TellsNoInput from held arrays)) (sym named)
     (IfErr-weaker c.lists_in.result _ _ (λ f mistake. mistaken held (FromLists words) (lists_text words) arrays f refl mistake)
     c.lists_in.ensures.why)
