@@ -4,18 +4,25 @@
 # Each edit is applied to a copy of the crates, which are then run unproved. The mutant is caught if something shows it:
 #
 # - One of the tests of `run_tests` fails, and not because it takes too long. Without an edit all tests must pass.
+# - If the edit has a line `try: examples rows TABLE`: the program of `examples` doesn't print what crates/examples/stdout has
+#   for this table, which `rt ci` compares with what the crates print without the edit.
 # - If the edit has a line `try: CRATE ARGUMENT..`: the program of that crate, with these arguments, prints something else or
 #   ends with another status than without the edit. `fault.afx` is tests/bodies/fault.afx.
 #
 # Arguments are names of edits; without any, all are tried, and if all are caught, the line `tests/bodies` of
-# wrong_bodies/RESULT is renewed. Each takes some minutes; JOBS=N tries N at a time. The last line is `N caught, M not`; the
-# status is 1 if one isn't caught. Not part of CI. The edits in tests/bodies/built are caught only by scripts over a built
+# wrong_bodies/RESULT is renewed. Each takes some minutes; JOBS=N tries N at a time. KEPT=FOLDER keeps there what each edit came
+# to, so that a run that was ended goes on where it was, as long as the crates and the edits are the same. The last line is
+# `N caught, M not`; the status is 1 if one isn't caught. Not part of CI. The edits in tests/bodies/built are caught only by scripts over a built
 # program: tests/threads.sh and tests/program.sh. They aren't tried here.
 set -eu
 cd "$(dirname "$0")/.."
 top=$PWD
 room=$(mktemp -d)
 trap 'rm -rf "$room"' EXIT
+# What each edit came to is kept in a folder of its own for these crates and these edits.
+state=$(git ls-files -z crates crates.txt tests/bodies | xargs -0 sha256sum | sha256sum | cut -c1-16)
+kept=${KEPT:-$room}/$state
+mkdir -p "$kept"
 is_whole=0
 [ $# -gt 0 ] || {
     set -- $(basename -s .edit tests/bodies/*.edit)
@@ -99,6 +106,19 @@ shown_by_tests() {
     failed "$1"
 }
 
+# shown_by_rows FOLDER TABLE: the table that catches the edit of a folder, or nothing.
+shown_by_rows() {
+    folder=$1
+    printed "$folder" examples "rows $2" >"$folder/log"
+    {
+        grep "^$2: [0-9]* rows answer as they say$" crates/examples/stdout
+        echo 'run=ended status=0 runners=1 races=unchecked proved=no'
+    } >"$folder/wanted"
+    if [ -s "$folder/log" ] && ! cmp -s "$folder/wanted" "$folder/log"; then
+        echo "$2"
+    fi
+}
+
 # shown_by_program FOLDER CRATE ARGUMENT..: the program that catches the edit of a folder, or nothing.
 shown_by_program() {
     folder=$1
@@ -127,28 +147,33 @@ renew() {
 
 # try_one NAME: tries an edit, and says in a file what caught it, or that nothing did.
 try_one() {
+    if [ -s "$kept/$1.told" ]; then
+        cat "$kept/$1.told"
+        return
+    fi
     copy=$room/$1
     as_they_stand "$copy"
     apply "$top/tests/bodies/$1.edit" "$copy"
     way=$(sed -n 's/^try: //p' "$top/tests/bodies/$1.edit")
-    if [ "${way%% *}" = examples ]; then
-        # (one argument, as in crates/examples/args)
-        names=$(shown_by_program "$copy" examples "${way#* }")
+    if [ "${way% *}" = 'examples rows' ]; then
+        names=$(shown_by_rows "$copy" "${way##* }")
     elif [ -n "$way" ]; then
         names=$(shown_by_program "$copy" $way)
     else
         names=$(shown_by_tests "$copy")
     fi
     if [ -n "$names" ]; then
-        echo "$1: caught by $names" >"$room/$1.told"
+        echo "$1: caught by $names" >"$copy/told"
     else
-        { echo "$1: not caught"; tail -20 "$copy/log"; } >"$room/$1.told"
+        { echo "$1: not caught"; tail -20 "$copy/log"; } >"$copy/told"
     fi
-    cat "$room/$1.told"
+    mv "$copy/told" "$kept/$1.told"
+    cat "$kept/$1.told"
     rm -rf "$copy"
 }
 
-tested_as_it_is
+[ -e "$kept/passes" ] || tested_as_it_is
+touch "$kept/passes"
 begun=0
 for name; do
     try_one "$name" &
@@ -156,8 +181,8 @@ for name; do
     [ $((begun % ${JOBS:-1})) -ne 0 ] || wait
 done
 wait
-caught=$(cat "$room"/*.told | grep -c ': caught by ' || true)
-missed=$(cat "$room"/*.told | grep -c ': not caught$' || true)
+caught=$(for name; do cat "$kept/$name.told"; done | grep -c ': caught by ' || true)
+missed=$(for name; do cat "$kept/$name.told"; done | grep -c ': not caught$' || true)
 [ "$caught" -ne $# ] || [ "$is_whole" = 0 ] || renew "$caught"
 echo "$caught caught, $missed not"
 [ "$caught" -eq $# ]
