@@ -1,5 +1,5 @@
 -- The JSON members of the lists among arguments.
-use Rattle.std.proofs.Common.{◌≡◌, ◌∷◌, ◌++◌, ◌+◌, ◌<◌, ◌≤◌, ℕ, List, [], Option, Some, None, Bor, String, Global}
+use Rattle.std.proofs.Common.{◌≡◌, ◌∷◌, ◌++◌, ◌+◌, ◌<◌, ◌≤◌, ℕ, List, [], codes, Option, Some, None, Bor, String, Global}
 use Rattle.std.proofs.Common.{append_assoc, arith, refl, ap, ap₂, sym, ◌∙◌, length, map, drop, take, take_all, get_or}
 use Rattle.std.proofs.lemmas.List.{append-nil, drop_all, drop_more}
 use Rattle.std.proofs.lemmas.Str.Pattern.{split_once_first}

@@ -23,10 +23,8 @@ returns-in-Ok-clause-says g c =
     let text = c.as_str.result.now in
     let has : HasJson held (FromBytes name file) text = (
       c.in_ok-bytes.bytes.items,
-      (
-        c.in_ok-bytes.ensures.given,
-        c.as_str.ensures.value ∙ c.in-Ok.ensures ∙ ap (bytes_text name) c.deref.ensures.value,
-      ),
+      c.in_ok-bytes.ensures.given,
+      c.as_str.ensures.value ∙ c.in-Ok.ensures ∙ ap (bytes_text name) c.deref.ensures.value,
     ) in
     IfOk-weaker c.read.result _ _ (λ i says. said held (FromBytes name file) text arrays _ has says) c.read.ensures.says
 
@@ -38,9 +36,7 @@ returns-in-Ok-clause-why g c =
     let text = c.as_str.result.now in
     let has : HasJson held (FromBytes name file) text = (
       c.in_ok-bytes.bytes.items,
-      (
-        c.in_ok-bytes.ensures.given,
-        c.as_str.ensures.value ∙ c.in-Ok.ensures ∙ ap (bytes_text name) c.deref.ensures.value,
-      ),
+      c.in_ok-bytes.ensures.given,
+      c.as_str.ensures.value ∙ c.in-Ok.ensures ∙ ap (bytes_text name) c.deref.ensures.value,
     ) in
     IfErr-weaker c.read.result _ _ (λ f mistake. mistaken held (FromBytes name file) text arrays f has mistake) c.read.ensures.why
