@@ -19,10 +19,12 @@ cd "$(dirname "$0")/.."
 top=$PWD
 room=$(mktemp -d)
 trap 'rm -rf "$room"' EXIT
-# What each edit came to is kept in a folder of its own for these crates and these edits.
-state=$(git ls-files -z crates crates.txt tests/bodies | xargs -0 sha256sum | sha256sum | cut -c1-16)
-kept=${KEPT:-$room}/$state
+# What each edit came to is kept in a folder of its own for these crates, in a file of its own for this edit.
+kept=${KEPT:-$room}/$(git ls-files -z crates crates.txt | xargs -0 sha256sum | sha256sum | cut -c1-16)
 mkdir -p "$kept"
+told_of() {
+    echo "$kept/$1.$(cat "tests/bodies/$1.edit" tests/bodies/fault.afx | sha256sum | cut -c1-16)"
+}
 is_whole=0
 [ $# -gt 0 ] || {
     set -- $(basename -s .edit tests/bodies/*.edit)
@@ -147,8 +149,8 @@ renew() {
 
 # try_one NAME: tries an edit, and says in a file what caught it, or that nothing did.
 try_one() {
-    if [ -s "$kept/$1.told" ]; then
-        cat "$kept/$1.told"
+    if [ -s "$(told_of "$1")" ]; then
+        cat "$(told_of "$1")"
         return
     fi
     copy=$room/$1
@@ -167,8 +169,8 @@ try_one() {
     else
         { echo "$1: not caught"; tail -20 "$copy/log"; } >"$copy/told"
     fi
-    mv "$copy/told" "$kept/$1.told"
-    cat "$kept/$1.told"
+    mv "$copy/told" "$(told_of "$1")"
+    cat "$(told_of "$1")"
     rm -rf "$copy"
 }
 
@@ -181,8 +183,8 @@ for name; do
     [ $((begun % ${JOBS:-1})) -ne 0 ] || wait
 done
 wait
-caught=$(for name; do cat "$kept/$name.told"; done | grep -c ': caught by ' || true)
-missed=$(for name; do cat "$kept/$name.told"; done | grep -c ': not caught$' || true)
+caught=$(for name; do cat "$(told_of "$name")"; done | grep -c ': caught by ' || true)
+missed=$(for name; do cat "$(told_of "$name")"; done | grep -c ': not caught$' || true)
 [ "$caught" -ne $# ] || [ "$is_whole" = 0 ] || renew "$caught"
 echo "$caught caught, $missed not"
 [ "$caught" -eq $# ]

@@ -1,4 +1,4 @@
-use Rattle.std.proofs.Common.{Some, ap, map, refl, subst, sym, ◌∙◌}
+use Rattle.std.proofs.Common.{◌≡◌, Some, map, refl, rules, subst, sym}
 use Rattle.std.proofs.lemmas.Result.{IfErr-weaker, IfOk-weaker}
 use Rattle.std.specs.Prelude.{IfErr, IfOk, option_map}
 use Rattle.std.specs.String.{string_bytes}
@@ -14,8 +14,8 @@ returns-in-Some-Lists-clause-begins g c =
     let held = g.F.FileSource.held c.args.files.now in
     let arrays = (code_of c.args.typed.now).arrays in
     let words = map string_bytes c.in-Some-Lists.words.now in
-    subst (λ from. IfOk c.lists_in.result (λ i. BeginsWith (option_map source from) held arrays (lists_of i)))
-    (sym (c.in-Some-Lists.is ∙ ap Some c.in-Some-Lists.field-0-is))
+    let named : option_map source c.args.source ≡ Some (FromLists words) = search rules in
+    subst (λ from. IfOk c.lists_in.result (λ i. BeginsWith from held arrays (lists_of i))) (sym named)
     (IfOk-weaker c.lists_in.result _ _ (λ i says. said held (FromLists words) (lists_text words) arrays _ refl says)
     c.lists_in.ensures.says)
 
@@ -24,7 +24,7 @@ returns-in-Some-Lists-clause-why g c =
     let held = g.F.FileSource.held c.args.files.now in
     let arrays = (code_of c.args.typed.now).arrays in
     let words = map string_bytes c.in-Some-Lists.words.now in
-    subst (λ from. IfErr c.lists_in.result (TellsNoInput (option_map source from) held arrays))
-    (sym (c.in-Some-Lists.is ∙ ap Some c.in-Some-Lists.field-0-is))
+    let named : option_map source c.args.source ≡ Some (FromLists words) = search rules in
+    subst (λ from. IfErr c.lists_in.result (TellsNoInput from held arrays)) (sym named)
     (IfErr-weaker c.lists_in.result _ _ (λ f mistake. mistaken held (FromLists words) (lists_text words) arrays f refl mistake)
     c.lists_in.ensures.why)
