@@ -89,7 +89,7 @@ def is_shorter(case, ended):
     held = json.loads(ended.out)
     if out and (ended.status, ended.err) == (status, err):
         # (its reason may be that of another explanation, which needs less memory; all else is the same)
-        return without_reason(held) == without_reason(json.loads(out))
+        return bool(held["reason"] and held["help"]) and without_reason(held) == without_reason(json.loads(out))
     refused = (ended.status, ended.err) in refusals(case.words[0])
     return refused and (held["status"], held["message"] + "\n") == (ended.status, ended.err.decode())
 
