@@ -91,8 +91,16 @@ def is_shorter(case, ended):
     if not ended.out:
         return (ended.status, ended.err) == (status, err)
     held = json.loads(ended.out)
+    if out and (ended.status, ended.err) == (status, err):
+        # (its reason may be that of another explanation, which needs less memory; all else is the same)
+        return bool(held["reason"] and held["help"]) and without_reason(held) == without_reason(json.loads(out))
     refused = (ended.status, ended.err) in refusals(case.words[0])
     return refused and (held["status"], held["message"] + "\n") == (ended.status, ended.err.decode())
+
+
+def without_reason(held):
+    """The members of an object that don't come from the text of an explanation."""
+    return {name: value for name, value in held.items() if name not in ("reason", "help")}
 
 
 class Case:
