@@ -59,9 +59,11 @@ fn push_tasks(text: &mut String, cost: &Cost) -> Result<(), AllocError>
 pub fn push_grain(text: &mut String, cost: &Cost) -> Result<(), AllocError>
     ensures { OnOk result (string_bytes text.new ≡ string_bytes text.old ++ grain_lines cost.now) }
 {
-    text.push_str("steps per task: ")?;
-    push_parallelism(text, cost.work, cost.tasks)?;
+    let steps = cost.work;
+    let tasks = cost.tasks;
     let small = cost.small;
+    text.push_str("steps per task: ")?;
+    push_parallelism(text, steps, tasks)?;
     write!(text, "tasks under 1000 steps: {small}\n")?;
     push_advice(text, cost)
 }
