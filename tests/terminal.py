@@ -1,7 +1,8 @@
 #!/usr/bin/env python3
 """Runs the program with its standard error at a pseudo-terminal, at a pipe, and with each word of `--explain` or `--warn`,
-and compares what it writes: only at a terminal explanations and warnings are written by default. No contract says that `main` finds a terminal, and
-the rows of examples/rows have none. Prints each run that differs; the last line is `N passed, M failed`.
+and compares what it writes: only at a terminal explanations and warnings are written by default, and the time of a long
+command is shown. No contract says that `main` finds a terminal, and the rows of examples/rows have none. Prints each run that
+differs; the last line is `N passed, M failed`.
 
     python3 tests/terminal.py      AFX=./afx names another program
 """
@@ -60,9 +61,12 @@ idle.afx:1:8: warning: this `finish` has no task to wait for
        |        ^
 help: remove the `finish`, or start tasks in it with `async`.
 """
-SLOW = b"main { var i = 0; while i < 200000000 { i = i + 1; } print 1; }\n"
+SLOW = b"main { var i = 0; while i < %d { i = i + 1; } print 1; }\n"
+# Tasks that each have a turn of their own, for a long trace.
+TASKS = b"main { var i = 0; while i < 180000 { finish { async { print 1; } } i = i + 1; } }\n"
 TIME = re.compile(rb"(?:\rafx: [0-9]+ s)+\r\x1b\[K")
-FILES = {"slow.afx": SLOW, "refused.afx": REFUSED, "faulty.afx": FAULTY, "endless.afx": ENDLESS, "idle.afx": IDLE,
+FILES = {"slow.afx": SLOW % 200000000, "slower.afx": SLOW % 50000000, "tasks.afx": TASKS, "slower.out": b"1\n",
+         "asyncs.afx": b"main { array a: int[1]; finish {" + b"async { print a[0]; }" * 20000 + b"} }\n", "refused.afx": REFUSED, "faulty.afx": FAULTY, "endless.afx": ENDLESS, "idle.afx": IDLE,
          "right.afx": b"main { print 1; }\n"}
 
 # The words of a run, its output, the line that it writes in any case, its explanation or warnings, and its status.
@@ -79,6 +83,18 @@ WARNED = (
     (["check", "idle.afx"], b"accepted: 0 procedures, 2 labels\n", b"", IDLE_MORE, 0),
     (["check", "right.afx"], b"accepted: 0 procedures, 1 labels\n", b"", b"", 0),
     (["check", "--explain=never", "refused.afx"], b"", REFUSED_LINE, b"", 1),
+)
+STEPS = ["--steps", "1000000000"]
+# Commands that take more than a second, each with whether it shows the time.
+LONG = (
+    (["serial", "slow.afx", *STEPS], True),
+    (["serial", "slow.afx", *STEPS, "--progress"], False),
+    (["run", "slow.afx", "--workers", "1", *STEPS], True),
+    (["cost", "slower.afx", *STEPS], True),
+    (["bench", "slower.afx", "--workers", "1", *STEPS], True),
+    (["test", "slower.afx", *STEPS], True),
+    (["check", *["asyncs.afx"] * 16], True),
+    (["view", "tasks.afx", "tasks.trace"], True),
 )
 
 
@@ -138,15 +154,15 @@ def main():
                 failed += 1
                 print(f"{way.__name__}: colours: {told}")
         # A command that takes more than a second shows the time, at a terminal alone, and erases it.
-        for words, is_shown in ((["serial", "slow.afx", "--steps", "1000000000"], True),
-                                (["serial", "slow.afx", "--steps", "1000000000", "--progress"], False)):
-            told = at_terminal(words, room, env, keeps_time=True)
-            if told[0] == b"1\n" and bool(TIME.search(told[1])) == is_shown and (not is_shown or not TIME.sub(b"", told[1])):
+        at_pipe(["run", "tasks.afx", "--workers", "1", *STEPS, "--trace", "tasks.trace"], room, env)
+        for words, is_shown in LONG:
+            out, told, status = at_terminal(words, room, env, keeps_time=True)
+            if status == 0 and bool(TIME.search(told)) == is_shown and (not is_shown or not TIME.sub(b"", told)):
                 passed += 1
             else:
                 failed += 1
-                print(f"the time: afx {' '.join(words)}\n  {told}")
-        if at_pipe(["serial", "slow.afx", "--steps", "1000000000"], room, env) == (b"1\n", b"", 0):
+                print(f"the time: afx {' '.join(words)}\n  {told} {status} {out[:200]}")
+        if at_pipe(["serial", "slow.afx", *STEPS], room, env) == (b"1\n", b"", 0):
             passed += 1
         else:
             failed += 1
