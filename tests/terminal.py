@@ -13,6 +13,7 @@ import re
 import subprocess
 import sys
 import tempfile
+import time
 
 TOP = pathlib.Path(__file__).resolve().parent.parent
 
@@ -62,11 +63,10 @@ idle.afx:1:8: warning: this `finish` has no task to wait for
 help: remove the `finish`, or start tasks in it with `async`.
 """
 SLOW = b"main { var i = 0; while i < %d { i = i + 1; } print 1; }\n"
-# Tasks that each have a turn of their own, for a long trace.
-TASKS = b"main { var i = 0; while i < 180000 { finish { async { print 1; } } i = i + 1; } }\n"
+# As many tasks, for a long trace.
+TASKS = b"main { var i = 0; while i < %d { finish { async { print 1; } } i = i + 1; } }\n"
 TIME = re.compile(rb"(?:\rafx: [0-9]+ s)+\r\x1b\[K")
-FILES = {"slow.afx": SLOW % 200000000, "slower.afx": SLOW % 50000000, "tasks.afx": TASKS, "slower.out": b"1\n",
-         "asyncs.afx": b"main { array a: int[1]; finish {" + b"async { print a[0]; }" * 20000 + b"} }\n", "refused.afx": REFUSED, "faulty.afx": FAULTY, "endless.afx": ENDLESS, "idle.afx": IDLE,
+FILES = {"slow.out": b"1\n", "asyncs.afx": b"main { array a: int[1]; finish {" + b"async { print a[0]; }" * 20000 + b"} }\n", "refused.afx": REFUSED, "faulty.afx": FAULTY, "endless.afx": ENDLESS, "idle.afx": IDLE,
          "right.afx": b"main { print 1; }\n"}
 
 # The words of a run, its output, the line that it writes in any case, its explanation or warnings, and its status.
@@ -85,17 +85,19 @@ WARNED = (
     (["check", "--explain=never", "refused.afx"], b"", REFUSED_LINE, b"", 1),
 )
 STEPS = ["--steps", "1000000000"]
-# Commands that take more than a second, each with whether it shows the time.
+# Commands that take long, each with whether it shows the time. A command is run with more turns, tasks or files until it takes
+# long enough.
 LONG = (
     (["serial", "slow.afx", *STEPS], True),
     (["serial", "slow.afx", *STEPS, "--progress"], False),
     (["run", "slow.afx", "--workers", "1", *STEPS], True),
-    (["cost", "slower.afx", *STEPS], True),
-    (["bench", "slower.afx", "--workers", "1", *STEPS], True),
-    (["test", "slower.afx", *STEPS], True),
-    (["check", *["asyncs.afx"] * 16], True),
+    (["cost", "slow.afx", *STEPS], True),
+    (["bench", "slow.afx", "--workers", "1", *STEPS], True),
+    (["test", "slow.afx", *STEPS], True),
+    (["check", "asyncs.afx"], True),
     (["view", "tasks.afx", "tasks.trace"], True),
 )
+LONG_ENOUGH = 1.5
 
 
 def at_terminal(words, room, env, keeps_time=False):
@@ -123,6 +125,22 @@ def at_pipe(words, room, env):
     """Returns the same of a run whose standard error is a pipe."""
     ran = subprocess.run([AFX, *words], cwd=room, env=env, stdin=subprocess.DEVNULL, capture_output=True)
     return ran.stdout, ran.stderr, ran.returncode
+
+
+def long_run(words, room, env):
+    """Runs a command with growing programs, until it takes long enough. Returns what it tells, and the seconds."""
+    for size in (1, 4, 16):
+        (pathlib.Path(room) / "slow.afx").write_bytes(SLOW % (28000000 * size))
+        if words[0] == "view":
+            (pathlib.Path(room) / "tasks.afx").write_bytes(TASKS % (60000 * size))
+            at_pipe(["run", "tasks.afx", "--workers", "1", *STEPS, "--tasks", "1000000", "--trace", "tasks.trace"], room, env)
+        files = words[1:] * (20 * size) if words[0] == "check" else words[1:]
+        began = time.monotonic()
+        told = at_terminal([words[0], *files], room, env, keeps_time=True)
+        seconds = time.monotonic() - began
+        if seconds >= LONG_ENOUGH:
+            break
+    return told, seconds
 
 
 def main():
@@ -154,14 +172,16 @@ def main():
                 failed += 1
                 print(f"{way.__name__}: colours: {told}")
         # A command that takes more than a second shows the time, at a terminal alone, and erases it.
-        at_pipe(["run", "tasks.afx", "--workers", "1", *STEPS, "--trace", "tasks.trace"], room, env)
         for words, is_shown in LONG:
-            out, told, status = at_terminal(words, room, env, keeps_time=True)
-            if status == 0 and bool(TIME.search(told)) == is_shown and (not is_shown or not TIME.sub(b"", told)):
+            told, seconds = long_run(words, room, env)
+            out, line, status = told
+            is_right = status == 0 and bool(TIME.search(line)) == is_shown and (not is_shown or not TIME.sub(b"", line))
+            if is_right and seconds >= LONG_ENOUGH:
                 passed += 1
             else:
                 failed += 1
-                print(f"the time: afx {' '.join(words)}\n  {told} {status} {out[:200]}")
+                print(f"the time: afx {' '.join(words)}\n  {line} {status} {out[:200]} {seconds:.1f} s")
+        (pathlib.Path(room) / "slow.afx").write_bytes(SLOW % 200000000)
         if at_pipe(["serial", "slow.afx", *STEPS], room, env) == (b"1\n", b"", 0):
             passed += 1
         else:
