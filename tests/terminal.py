@@ -13,6 +13,7 @@ import re
 import subprocess
 import sys
 import tempfile
+import threading
 import time
 
 TOP = pathlib.Path(__file__).resolve().parent.parent
@@ -66,7 +67,7 @@ SLOW = b"main { var i = 0; while i < %d { i = i + 1; } print 1; }\n"
 # As many tasks, for a long trace.
 TASKS = b"main { var i = 0; while i < %d { finish { async { print 1; } } i = i + 1; } }\n"
 TIME = re.compile(rb"(?:\rafx: [0-9]+ s)+\r\x1b\[K")
-FILES = {"slow.out": b"1\n", "asyncs.afx": b"main { array a: int[1]; finish {" + b"async { print a[0]; }" * 20000 + b"} }\n", "refused.afx": REFUSED, "faulty.afx": FAULTY, "endless.afx": ENDLESS, "idle.afx": IDLE,
+FILES = {"slow.out": b"1\n", "refused.afx": REFUSED, "faulty.afx": FAULTY, "endless.afx": ENDLESS, "idle.afx": IDLE,
          "right.afx": b"main { print 1; }\n"}
 
 # The words of a run, its output, the line that it writes in any case, its explanation or warnings, and its status.
@@ -85,8 +86,8 @@ WARNED = (
     (["check", "--explain=never", "refused.afx"], b"", REFUSED_LINE, b"", 1),
 )
 STEPS = ["--steps", "1000000000"]
-# Commands that take long, each with whether it shows the time. A command is run with more turns, tasks or files until it takes
-# long enough.
+# Commands that take long, each with whether it shows the time. A command is run with more turns or tasks until it takes long
+# enough. No program takes that long to check, so `check` waits for the text of its program.
 LONG = (
     (["serial", "slow.afx", *STEPS], True),
     (["serial", "slow.afx", *STEPS, "--progress"], False),
@@ -94,8 +95,8 @@ LONG = (
     (["cost", "slow.afx", *STEPS], True),
     (["bench", "slow.afx", "--workers", "1", *STEPS], True),
     (["test", "slow.afx", *STEPS], True),
-    (["check", "asyncs.afx"], True),
-    (["view", "tasks.afx", "tasks.trace"], True),
+    (["check", "late.afx"], True),
+    (["view", "tasks.afx", "tasks.trace", "--summary"], True),
 )
 LONG_ENOUGH = 1.5
 
@@ -134,9 +135,12 @@ def long_run(words, room, env):
         if words[0] == "view":
             (pathlib.Path(room) / "tasks.afx").write_bytes(TASKS % (60000 * size))
             at_pipe(["run", "tasks.afx", "--workers", "1", *STEPS, "--tasks", "1000000", "--trace", "tasks.trace"], room, env)
-        files = words[1:] * (20 * size) if words[0] == "check" else words[1:]
+        if words[0] == "check":
+            late = pathlib.Path(room) / "late.afx"
+            os.mkfifo(late)
+            threading.Timer(2, late.write_bytes, [b"main { print 1; }\n"]).start()
         began = time.monotonic()
-        told = at_terminal([words[0], *files], room, env, keeps_time=True)
+        told = at_terminal(words, room, env, keeps_time=True)
         seconds = time.monotonic() - began
         if seconds >= LONG_ENOUGH:
             break
