@@ -1,6 +1,6 @@
 //! Arguments of a command line that `clap` parses.
 
-use crate::order::{Order, Subject};
+use crate::order::{Order, Schedules, Subject};
 use clap::error::ErrorKind;
 use clap::{ArgMatches, Error};
 use command_line::request::{
@@ -48,7 +48,27 @@ fn ordered<'w>(alloc: Global, asked: Option<(&str, &ArgMatches<'w>)>) -> Result<
     match asked {
         Some(("bench", given)) => Ok(Order::Times(request(alloc, Command::Run, given)?)),
         Some(("test", given)) => Ok(Order::Tests(request(alloc, Command::Run, given)?)),
+        Some(("walk", given)) => Ok(walking(given, request(alloc, Command::Run, given)?)),
+        Some(("explore", given)) => {
+            Ok(exploring(given, request(alloc, Command::Explore, given)?))
+        }
         asked => Ok(told(asked, request_asked(alloc, asked)?)),
+    }
+}
+
+/// Returns the order of `walk`.
+fn walking<'w>(given: &ArgMatches<'w>, request: Request<'w>) -> Order<'w> {
+    Order::Walks(given.get_one("seed").unwrap_or(0), request)
+}
+
+/// Returns the order of `explore`, in the requested format. `clap` has checked the number of lists.
+fn exploring<'w>(given: &ArgMatches<'w>, request: Request<'w>) -> Order<'w> {
+    if let Some(most) = given.get_one("all") {
+        return Order::Explores(Schedules::All(most), request);
+    }
+    match given.get_str("format") {
+        Some("json") => Order::Explores(Schedules::Chosen, request),
+        _ => Order::AsText(request),
     }
 }
 

@@ -20,6 +20,19 @@ pub enum Order<'w> {
     Tests(Request<'w>),
     /// `check` or `fmt` of several files, one after the other.
     Each(Several<'w>),
+    /// `walk`: a program whose run is drawn from a seed, event by event.
+    Walks(u64, Request<'w>),
+    /// `explore` with one object as its answer.
+    Explores(Schedules, Request<'w>),
+}
+
+/// Which schedules of a program an object tells about.
+#[derive(Clone, Copy, PartialEq, Eq, Debug)]
+pub enum Schedules {
+    /// `--format json`: the one of the choices that are given.
+    Chosen,
+    /// `--all N`: all that at most this number of lists of choices reach.
+    All(u32),
 }
 
 /// One action for several files.
@@ -39,7 +52,9 @@ impl Order<'_> {
             Order::AsText(request)
             | Order::AsObject(_, request)
             | Order::Times(request)
-            | Order::Tests(request) => names_once(request),
+            | Order::Tests(request)
+            | Order::Walks(_, request)
+            | Order::Explores(_, request) => names_once(request),
             Order::Each(_) => true,
         }
     }

@@ -1,4 +1,7 @@
+pub mod AllEnds
+pub mod Candidates
 pub mod Costs
+pub mod Explored
 pub mod Failing
 pub mod Faults
 pub mod Given
@@ -9,5 +12,6 @@ pub mod Places
 pub mod Programs
 pub mod Races
 pub mod Refusals
+pub mod Searching
 pub mod Steps
 pub mod Witnesses
