@@ -1,7 +1,7 @@
 //! Arguments of a command line that `clap` parses.
 
 use crate::inputs::source_among;
-use crate::order::{Order, SeveralTests, Subject};
+use crate::order::{Order, Schedules, SeveralTests, Subject};
 use clap::error::ErrorKind;
 use clap::{ArgMatches, Error};
 use command_line::request::{
@@ -89,6 +89,7 @@ fn ordered<'w>(
     match asked {
         Some(("bench", given)) => Ok(timing(given, asking(alloc, words, run, given)?)),
         Some(("test", given)) => Ok(Order::Tests(asking(alloc, words, run, given)?)),
+        Some(("walk", given)) => Ok(walking(given, asking(alloc, words, run, given)?)),
         asked => Ok(told(asked, request_asked(alloc, words, asked)?)),
     }
 }
@@ -98,6 +99,22 @@ fn timing<'w>(given: &ArgMatches<'w>, request: Request<'w>) -> Order<'w> {
     match given.get_str("format") {
         Some("json") => Order::TimesAsObject(request),
         _ => Order::Times(request),
+    }
+}
+
+/// Returns the order of `walk`.
+fn walking<'w>(given: &ArgMatches<'w>, request: Request<'w>) -> Order<'w> {
+    Order::Walks(given.get_one("seed").unwrap_or(0), request)
+}
+
+/// Returns the order of `explore`, in the requested format. `clap` has checked the number of lists.
+fn exploring<'w>(given: &ArgMatches<'w>, request: Request<'w>) -> Order<'w> {
+    if let Some(most) = given.get_one("all") {
+        return Order::Explores(Schedules::All(most), request);
+    }
+    match given.get_str("format") {
+        Some("json") => Order::Explores(Schedules::Chosen, request),
+        _ => Order::AsText(request),
     }
 }
 

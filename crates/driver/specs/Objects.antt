@@ -1,5 +1,5 @@
 -- Answers as one object.
-use Rattle.std.specs.Prelude.{ℕ, List, Option, Result, Ok, Err, MatchResult}
+use Rattle.std.specs.Prelude.{ℕ, ◌≡◌, List, Option, Result, Ok, Err, MatchResult}
 use Rattle.command_line.specs.declared.request.Command.{Command}
 use Rattle.command_line.specs.declared.request.Command.TheVariants.{Summary}
 use Rattle.command_line.specs.Requests.{Settings}
@@ -7,9 +7,13 @@ use Rattle.files.specs.Held.{Held}
 use Rattle.failures.specs.declared.failure.Failure.{Failure}
 use Rattle.commands.specs.Answers.{Answer, Wrote}
 use Rattle.json_answers.specs.Objects.{FailsEarly, ObjectOf}
+use Rattle.json_answers.specs.AllEnds.{ObjectOfEnds}
+use Rattle.json_answers.specs.Explored.{ObjectOfStanding, TellsUnexplored}
 use Rattle.json_answers.specs.Failing.{FailedAsObject, TellsFailure}
 use Rattle.json_answers.specs.declared.object_line.ObjectLine.{ObjectLine}
 use Rattle.command_words.specs.Orders.{command_of}
+use Rattle.command_words.specs.declared.order.Schedules.{Schedules}
+use Rattle.command_words.specs.declared.order.Schedules.TheVariants.{All, Chosen}
 use Rattle.command_words.specs.declared.order.Subject.{Subject}
 use Rattle.viewing.specs.Objects.{ObjectOfSummary}
 use Rattle.viewing.specs.Views.{TellsNoTrace}
@@ -32,6 +36,18 @@ pub record TellsObject (x : Subject) (file : List ℕ) (s : Settings) (text : Li
       (FailedAsObject (ObjectOfAny (command_of x) s held text) (ExplainsAny (command_of x) s held text)
       (TellsFailure file text) old new)
   pub leaves : Leaves (command_of x) s text held later r
+
+-- the object about these schedules: where the run by the given choices stands, or the ends of the runs
+abbrev pub ObjectOfSchedules : Schedules → Settings → Held → (text told : List ℕ) → (status : ℕ) → Type 0
+ObjectOfSchedules Chosen s held text told status = ObjectOfStanding s held text told status
+ObjectOfSchedules (All most) s held text told status = ObjectOfEnds most s held text told status
+
+-- it was written; or there is a reason why there is none, and its object was written
+pub record TellsSchedules (x : Schedules) (file : List ℕ) (s : Settings) (text : List ℕ) (held later : Held)
+    (old new : Option (List ℕ)) (r : Result ℕ Failure) : Type 0 where
+  pub done : MatchResult r (Wrote (ObjectOfSchedules x s held text) old new)
+      (FailedAsObject (ObjectOfSchedules x s held text) (TellsUnexplored s held text) (TellsFailure file text) old new)
+  pub keeps : later ≡ held
 
 -- the status of an object
 abbrev pub status_in : Result ObjectLine Failure → Result ℕ Failure

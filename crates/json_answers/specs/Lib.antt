@@ -1,4 +1,7 @@
+pub mod AllEnds
+pub mod Candidates
 pub mod Costs
+pub mod Explored
 pub mod Failing
 pub mod Faults
 pub mod Given
@@ -9,6 +12,7 @@ pub mod Places
 pub mod Programs
 pub mod Races
 pub mod Refusals
+pub mod Searching
 pub mod Statements
 pub mod Steps
 pub mod Summaries

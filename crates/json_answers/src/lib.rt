@@ -2,7 +2,9 @@
 
 #![tactic(auto)]
 
+pub mod all_ends;
 pub mod costs;
+pub mod exploring;
 pub mod failed;
 pub mod faults;
 pub mod found;
@@ -19,6 +21,7 @@ pub mod refused_program;
 pub mod run_outcomes;
 pub mod running;
 pub mod shares;
+pub mod standings;
 pub mod statements;
 pub mod steps;
 pub mod summaries;
