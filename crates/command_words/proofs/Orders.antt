@@ -6,7 +6,7 @@ use Rattle.std.specs.String.{string_bytes}
 use Rattle.std.proofs.Common.{true≢false, Global, String}
 use Rattle.std.proofs.lemmas.Slice.Eq.{bytes_eq-Decides}
 use Rattle.command_line.specs.Requests.{Asked, Asks}
-use Rattle.command_words.specs.Orders.{Order, AsText, AsObject, Times, Tests, Each, Orders, AsksForObject, IsTested, IsTimed}
+use Rattle.command_words.specs.Orders.{Order, AsText, AsObject, Times, Tests, Each, Walks, Explores, Orders, AsksForObject, IsTested, IsTimed}
 use Rattle.command_words.specs.Orders.{subject_of}
 use Rattle.command_words.specs.Reading.{taken}
 use Rattle.command_words.specs.declared.order.Subject.{Subject}
@@ -84,6 +84,8 @@ none_asked (AsObject x a) p = absurd (none_begins p.command (codes "--format" �
 none_asked (Times a) p = absurd (none_begins (codes "bench") p.behind p.words_are)
 none_asked (Tests a) p = absurd (none_begins (codes "test") p.behind p.words_are)
 none_asked (Each x files t) p = absurd p
+none_asked (Walks seed a) p = absurd p
+none_asked (Explores a) p = absurd p
 
 pub no_words : (ws : List (String Global)) → length ws < 1 → map string_bytes ws ≡ []
 no_words [] short = refl
@@ -104,6 +106,8 @@ module _ (command : List ℕ) (behind : List (List ℕ)) where
   orders_else P nothing times tests (Times a) p = times a p
   orders_else P nothing times tests (Tests a) p = tests a p
   orders_else P nothing times tests (Each x files t) p = absurd p
+  orders_else P nothing times tests (Walks seed a) p = absurd p
+  orders_else P nothing times tests (Explores a) p = absurd p
 
   -- `bench` orders a timing
   pub bench_times : (P : Order → Type 0) → command ≡ codes "bench"
@@ -139,3 +143,5 @@ module _ (command : List ℕ) (behind : List (List ℕ)) where
   told_only P no_test no_bench text object (Tests a) p =
       absurd (no_test (head_is command (codes "test") behind p.behind p.words_are))
   told_only P no_test no_bench text object (Each x files t) p = absurd p
+  told_only P no_test no_bench text object (Walks seed a) p = absurd p
+  told_only P no_test no_bench text object (Explores a) p = absurd p

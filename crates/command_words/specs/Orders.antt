@@ -1,5 +1,6 @@
 -- Orders of command lines: to answer for one program, as text or as one object; to time its runs; to test
--- the programs of a folder; or to answer for several programs, one after the other.
+-- the programs of a folder; to answer for several programs, one after the other; to draw a run of a program;
+-- or to tell which of its tasks may step.
 use Rattle.std.specs.Prelude.{ℕ, ◌≡◌, Bool, true, false, List, [], ◌∷◌, Option, None, Some, IsTrue, codes, map}
 use Rattle.std.specs.String.{string_bytes}
 use Rattle.command_line.specs.Requests.{Asked, Asks, asked_of, usual_telling}
@@ -12,6 +13,7 @@ use Rattle.command_words.specs.Files.{names_once as asks_once}
 use Rattle.command_words.specs.declared.order.Order.{Order as rOrder}
 use Rattle.command_words.specs.declared.order.Order.TheVariants.{AsText as rAsText, AsObject as rAsObject}
 use Rattle.command_words.specs.declared.order.Order.TheVariants.{Times as rTimes, Tests as rTests, Each as rEach}
+use Rattle.command_words.specs.declared.order.Order.TheVariants.{Walks as rWalks, Explores as rExplores}
 use Rattle.command_words.specs.declared.order.Subject.{Subject}
 use Rattle.command_words.specs.declared.order.Subject.TheVariants.{Run as RunTold, Serial as SerialTold}
 use Rattle.command_words.specs.declared.order.Subject.TheVariants.{Check as CheckTold, Cost as CostTold}
@@ -23,6 +25,8 @@ pub data Order : Type 0 where
   Times : (a : Asked) → Order
   Tests : (a : Asked) → Order
   Each : (x : Action) → (files : List (List ℕ)) → (t : Telling) → Order
+  Walks : (seed : ℕ) → (a : Asked) → Order
+  Explores : (a : Asked) → Order
 
 abbrev pub order : rOrder → Order
 order (rAsText request) = AsText (asked_of request)
@@ -30,6 +34,8 @@ order (rAsObject x request) = AsObject x (asked_of request)
 order (rTimes request) = Times (asked_of request)
 order (rTests request) = Tests (asked_of request)
 order (rEach several) = Each several.action (map string_bytes several.files.now) several.telling
+order (rWalks seed request) = Walks seed (asked_of request)
+order (rExplores request) = Explores (asked_of request)
 
 -- a command whose answer can be written as one object
 abbrev pub answer_told : Command → Option Subject
@@ -92,8 +98,10 @@ Orders words (AsText a) = Asks words a
 Orders words (AsObject x a) = AsksForObject words x a
 Orders words (Times a) = AsksToTime words a
 Orders words (Tests a) = AsksToTest words a
--- which arguments order this isn't specified
+-- which arguments order these isn't specified
 Orders words (Each x files t) = ⊥
+Orders words (Walks seed a) = ⊥
+Orders words (Explores a) = ⊥
 
 -- it gives no two files the same name
 abbrev pub names_once : Order → Bool
@@ -102,3 +110,5 @@ names_once (AsObject x a) = asks_once a
 names_once (Times a) = asks_once a
 names_once (Tests a) = asks_once a
 names_once (Each x files t) = true
+names_once (Walks seed a) = asks_once a
+names_once (Explores a) = asks_once a

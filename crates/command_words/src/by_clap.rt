@@ -48,7 +48,24 @@ fn ordered<'w>(alloc: Global, asked: Option<(&str, &ArgMatches<'w>)>) -> Result<
     match asked {
         Some(("bench", given)) => Ok(Order::Times(request(alloc, Command::Run, given)?)),
         Some(("test", given)) => Ok(Order::Tests(request(alloc, Command::Run, given)?)),
+        Some(("walk", given)) => Ok(walking(given, request(alloc, Command::Run, given)?)),
+        Some(("explore", given)) => {
+            Ok(exploring(given, request(alloc, Command::Explore, given)?))
+        }
         asked => Ok(told(asked, request_asked(alloc, asked)?)),
+    }
+}
+
+/// Returns the order of `walk`.
+fn walking<'w>(given: &ArgMatches<'w>, request: Request<'w>) -> Order<'w> {
+    Order::Walks(given.get_one("seed").unwrap_or(0), request)
+}
+
+/// Returns the order of `explore`, in the requested format.
+fn exploring<'w>(given: &ArgMatches<'w>, request: Request<'w>) -> Order<'w> {
+    match given.get_str("format") {
+        Some("json") => Order::Explores(request),
+        _ => Order::AsText(request),
     }
 }
 

@@ -20,6 +20,10 @@ pub enum Order<'w> {
     Tests(Request<'w>),
     /// `check` or `fmt` of several files, one after the other.
     Each(Several<'w>),
+    /// `walk`: a program whose run is drawn from a seed, event by event.
+    Walks(u64, Request<'w>),
+    /// `explore --format json`: where the run of a program stands after its choices.
+    Explores(Request<'w>),
 }
 
 /// One action for several files.
@@ -39,7 +43,9 @@ impl Order<'_> {
             Order::AsText(request)
             | Order::AsObject(_, request)
             | Order::Times(request)
-            | Order::Tests(request) => names_once(request),
+            | Order::Tests(request)
+            | Order::Walks(_, request)
+            | Order::Explores(request) => names_once(request),
             Order::Each(_) => true,
         }
     }

@@ -8,9 +8,11 @@ use Rattle.command_line.specs.Requests.{Settings}
 use Rattle.command_line.specs.declared.request.Command.TheVariants.{Run}
 use Rattle.files.specs.Held.{Held}
 use Rattle.failures.specs.declared.failure.Failure.{Failure}
-use Rattle.failures.specs.declared.failure.Failure.TheVariants.{NoMemory}
+use Rattle.failures.specs.declared.failure.Failure.TheVariants.{CannotWriteOutput, NoMemory}
+use Rattle.printing.specs.Appending.{Writes}
 use Rattle.commands.specs.Answers.{Explains, IsExplored}
 use Rattle.commands.proofs.Answering.{other_failure}
+use Rattle.json_answers.specs.Explored.{FailsUnexplored, ObjectOfStanding, TellsUnexplored, not_written}
 use Rattle.json_answers.specs.Objects.{FailsEarly, ObjectOf, TellsOutcome}
 use Rattle.json_answers.specs.Failing.{IsToldAsObject, TellsFailure}
 use Rattle.json_answers.specs.declared.object_line.ObjectLine.{ObjectLine}
@@ -19,7 +21,7 @@ use Rattle.command_words.specs.Orders.{command_of}
 use Rattle.command_words.specs.declared.order.Subject.{Subject}
 use Rattle.viewing.specs.Files.{Wrote, WritesTo}
 use Rattle.driver.specs.Acts.{Leaves}
-use Rattle.driver.specs.Objects.{TellsObject, status_in}
+use Rattle.driver.specs.Objects.{TellsObject, TellsStanding, status_in}
 use Rattle.driver.specs.Traced.{TellsNoRun, WritesTrace}
 use Rattle.driver.proofs.Leaving.{no_run_explained, no_run_other}
 
@@ -75,3 +77,36 @@ module _ (T : Type 0) (P Q : (bytes : List ℕ) → Type 0) (held later : Held) 
       → IfErr r (λ f. f ≡ NoMemory) → WritesTrace file Q held later (status_in r)
   traced_behind None x r w only = w
   traced_behind (Some name) x r w only = written_behind name r w only
+
+-- ---- where a run stands
+
+module _ (file : List ℕ) (s : Settings) (text : List ℕ) (held later : Held) (old new : Option (List ℕ)) (keeps : later ≡ held) where
+  -- its object was written, or a prefix of it
+  pub standing_written : (t : ObjectLine) (r : Result ℕ Failure) → ObjectOfStanding s held text (string_bytes t.line) t.status
+      → Writes old new r (string_bytes t.line) → IfOk r (λ n. n ≡ t.status) → IfErr r (λ f. f ≡ CannotWriteOutput)
+      → TellsStanding file s text held later old new r
+  standing_written t (Ok n) object written is only = record {
+    done = record {
+      told = string_bytes t.line;
+      answers = subst (ObjectOfStanding s held text (string_bytes t.line)) (sym is) object;
+      written = written;
+    };
+    keeps = keeps;
+  }
+  standing_written t (Err f) object written is only = record {
+    done = record {
+      why = subst (TellsUnexplored s held text) (sym only) not_written;
+      told = λ other. absurd (other only);
+      begun = λ _. record { told = string_bytes t.line; status = t.status; answers = object; begun = written };
+    };
+    keeps = keeps;
+  }
+
+  -- a failure whose object was written
+  pub standing_refused : (f : Failure) → FailsUnexplored s held text f → IsToldAsObject (TellsFailure file text f) old new
+      → TellsStanding file s text held later old new (Err f)
+  standing_refused f fails is_told = record {
+    done = object_refused (ObjectOfStanding s held text) (TellsUnexplored s held text) (TellsFailure file text) old new f
+        fails.why fails.early is_told;
+    keeps = keeps;
+  }

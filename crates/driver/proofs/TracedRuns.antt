@@ -1,16 +1,22 @@
--- The trace of a run, by the events of its log.
-use Rattle.std.proofs.Common.{◌≡◌, ℕ, ℤ, List, Option, Some, ap, ◌∙◌, subst, map}
+-- The trace of a run, by the events of its log, or by those that were drawn.
+use Rattle.std.proofs.Common.{◌≡◌, ℕ, ℤ, List, Option, Some, ap, sym, ◌∙◌, subst, map}
 use Rattle.std.specs.Prelude.{IfSome}
 use Rattle.types.specs.Code.{Program}
 use Rattle.types.specs.Outcome.{Budget, Outcome, outcome}
-use Rattle.types.specs.Translation.{budget}
+use Rattle.types.specs.Translation.{budget, outcome as outcome_in}
 use Rattle.types.specs.declared.budget.Budget.{Budget as rBudget}
+use Rattle.types.specs.declared.outcome.Outcome.{Outcome as rOutcome}
 use Rattle.events.specs.Events.{Event, event as event_of}
+use Rattle.events.specs.declared.event.Event.{Event as rEvent}
 use Rattle.task_run.specs.Jobs.{budget_of, lists_of, program_of}
+use Rattle.event_worlds.specs.Jobs.{IsWeightedJob}
 use Rattle.event_worlds.specs.Replay.{Legal}
+use Rattle.event_worlds.specs.Replaying.{IsReplayed, comes}
 use Rattle.event_worlds.specs.World.{World}
 use Rattle.event_worlds.specs.Worlds.{outcome_of, replayed}
 use Rattle.event_worlds.specs.declared.job.WeightedJob.{WeightedJob}
+use Rattle.event_worlds.specs.declared.world.World.{World as rWorld}
+use Rattle.event_worlds.proofs.Told.{told_is, told_there}
 use Rattle.trace_text.specs.Headers.{TraceHeader, header_of as header_in}
 use Rattle.trace_text.specs.Lines.{trace_text}
 use Rattle.trace_text.specs.declared.header.Header.{Header}
@@ -62,3 +68,22 @@ is_trace l j h s o bytes job_is budget_is w0_is header_budget header_w0 header_w
       legal = leads.legal;
       told = leads.told ∙ ap Some told;
     }
+
+-- ---- a run that was drawn: its events were replayed, and led to a world with an outcome
+
+module _ (r : rWorld) (ok : IsWeightedJob r.job) (j : WeightedJob) (es : List rEvent) (led : IsReplayed j es r) (x : rOutcome)
+    (told : r.told ≡ Some x) where
+  pub drawn_leads : LeadsToOutcome (record { world = r; events = es }) (outcome_in x)
+  drawn_leads = record {
+    world = led.world;
+    legal = subst (λ (k : WeightedJob). comes k es ≡ Legal led.world) (sym led.job) led.legal;
+    is_told = sym (told_there r ok led.world led.shows x told);
+  }
+
+  -- which is that of one thread
+  pub drawn_outcome : (b : rBudget) → j.job.budget ≡ b
+      → outcome_in x ≡ outcome (program_of j.job) (lists_of j.job) (budget b)
+  drawn_outcome b is =
+      subst (λ (k : WeightedJob). outcome_in x ≡ outcome (program_of k.job) (lists_of k.job) (budget k.job.budget)) led.job
+      (told_is r ok led.world led.shows x told)
+      ∙ ap (λ (c : rBudget). outcome (program_of j.job) (lists_of j.job) (budget c)) is

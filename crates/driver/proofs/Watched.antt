@@ -19,7 +19,8 @@ use Rattle.command_words.specs.Orders.{Order}
 use Rattle.driver.specs.Acts.{IsHandedOn, Reports}
 use Rattle.driver.specs.Watching.{WatchesDoing, WatchesOrder, WatchesTo}
 use Rattle.driver.specs.declared.doing.TextOrder.{TextOrder}
-use Rattle.driver.specs.declared.doing.TextOrder.TheVariants.{Answering, Describing, Timing}
+use Rattle.driver.specs.declared.doing.TextOrder.TheVariants.{Answering, Describing, Timing, Walking}
+use Rattle.driver.specs.declared.doing.TextOrder.TheVariants.{Exploring}
 
 -- no failure has the status of an outcome
 of_failure : (f : Failure) → failure_status f ≢ 1 → failure_status f ≤ 3 → ⊥
@@ -75,3 +76,5 @@ pub unread_watched : {W E : Type 0} (A : Type 0) (Told : List ℕ → W → W �
 unread_watched A Told w nothing Answering a e = not_begun Told A _ e w nothing
 unread_watched A Told w nothing (Describing x) a e = not_begun Told A _ e w nothing
 unread_watched A Told w nothing Timing a e = tt
+unread_watched A Told w nothing (Walking seed) a e = refl
+unread_watched A Told w nothing Exploring a e = refl

@@ -4,30 +4,37 @@ use Rattle.std.specs.Prelude.{IsErrAnd, ◌≡◌, nat_lt, if◌then◌else◌}
 use Rattle.std.specs.Io.KnownBytes.{Keeps}
 use Rattle.command_line.specs.Requests.{Asked, asked_of, is_explained, usual}
 use Rattle.command_line.specs.declared.request.Action.{Action}
+use Rattle.command_line.specs.declared.request.Action.TheVariants.{Answer}
+use Rattle.command_line.specs.declared.request.Command.TheVariants.{Run}
 use Rattle.command_line.specs.declared.request.Telling.{Telling}
 use Rattle.files.specs.Held.{Held, HasText, TellsNoProgram}
 use Rattle.failures.specs.declared.failure.Failure.{Failure}
 use Rattle.printing.specs.Appending.{AppendsBeginning}
 use Rattle.printing.specs.Reasons.{escaped}
 use Rattle.json_answers.specs.Failing.{IsToldAsObject, TellsFailure}
-use Rattle.command_words.specs.Orders.{Order, AsText, AsObject, Times, Tests, Each}
+use Rattle.command_words.specs.Orders.{Order, AsText, AsObject, Times, Tests, Each, Walks, Explores}
 use Rattle.command_words.specs.declared.order.Subject.{Subject}
 use Rattle.driver.specs.Acts.{Performs, Reports}
-use Rattle.driver.specs.Objects.{TellsObject}
+use Rattle.driver.specs.Objects.{TellsObject, TellsStanding}
 use Rattle.driver.specs.Trying.{TestsFolder, TimesRuns}
 use Rattle.driver.specs.declared.doing.TextOrder.{TextOrder}
-use Rattle.driver.specs.declared.doing.TextOrder.TheVariants.{Answering, Describing, Timing}
+use Rattle.driver.specs.declared.doing.TextOrder.TheVariants.{Answering, Describing, Timing, Walking}
+use Rattle.driver.specs.declared.doing.TextOrder.TheVariants.{Exploring}
 use Rattle.driver.specs.declared.loaded.Loaded.{Loaded}
 use Rattle.test_and_bench.specs.Folders.{Folders}
 
 -- this was done with the text of a program: the command was answered, or it was answered as one object, or
--- its runs were timed
+-- its runs were timed; or it was run by events drawn from a seed, with the answer, the failures and the trace
+-- of `run`; or one object told where its run stands
 abbrev pub DoesWith : TextOrder → Asked → (text : List ℕ) → (held later : Held) → (old new : Option (List ℕ))
     → Result ℕ Failure → Type 0
 DoesWith Answering a text held later old new r = Performs a.action a.file a.settings text held later old new r
 DoesWith (Describing x) a text held later old new r =
     TellsObject x a.file a.settings text held later old new r
 DoesWith Timing a text held later old new r = TimesRuns a.settings text held later old new r
+DoesWith (Walking seed) a text held later old new r =
+    Performs (Answer Run) a.file a.settings text held later old new r
+DoesWith Exploring a text held later old new r = TellsStanding a.file a.settings text held later old new r
 
 -- the order for a request and the text of its file
 abbrev pub DoesWithLoaded : TextOrder → Loaded → (held later : Held) → (old new : Option (List ℕ))
@@ -40,6 +47,8 @@ abbrev pub TellsUnread : TextOrder → (file : List ℕ) → (old new : Option (
 TellsUnread (Describing x) file old new f = IsToldAsObject (TellsFailure file [] f) old new
 TellsUnread Answering file old new f = Keeps old new
 TellsUnread Timing file old new f = Keeps old new
+TellsUnread (Walking seed) file old new f = Keeps old new
+TellsUnread Exploring file old new f = IsToldAsObject (TellsFailure file [] f) old new
 
 -- the failure states why a file has no text of a program, and is reported in this way
 pub record HasNone (d : TextOrder) (held : Held) (file : List ℕ) (old new : Option (List ℕ))
@@ -138,3 +147,7 @@ ActsOn at_terminal (Tests a) named held later old new err_old err_new status =
     TestsAs a named held later old new err_old err_new status
 ActsOn at_terminal (Each x files t) named held later old new err_old err_new status =
     ActsOnEach (is_explained t.explain at_terminal) x t held old err_old files later new err_new status
+ActsOn at_terminal (Walks seed a) named held later old new err_old err_new status =
+    ActsWith at_terminal (Walking seed) a held later old new err_old err_new status
+ActsOn at_terminal (Explores a) named held later old new err_old err_new status =
+    ActsWith at_terminal Exploring a held later old new err_old err_new status

@@ -9,9 +9,10 @@ use Rattle.command_line.specs.declared.request.Command.TheVariants.{Run, Serial,
 use Rattle.command_line.specs.declared.request.Command.TheVariants.{Meetings, Explore, Labels, Places, Format}
 use Rattle.command_line.specs.declared.request.Command.TheVariants.{CheckFormat, View, Summary, Draw, Chrome}
 use Rattle.command_line.specs.declared.request.Command.TheVariants.{Cost, CostByLabel, CostByProcedure}
-use Rattle.command_words.specs.Orders.{Order, AsText, AsObject, Times, Tests, Each, command_of}
+use Rattle.command_words.specs.Orders.{Order, AsText, AsObject, Times, Tests, Each, Walks, Explores, command_of}
 use Rattle.driver.specs.declared.doing.TextOrder.{TextOrder}
-use Rattle.driver.specs.declared.doing.TextOrder.TheVariants.{Answering, Describing, Timing}
+use Rattle.driver.specs.declared.doing.TextOrder.TheVariants.{Answering, Describing, Timing, Walking}
+use Rattle.driver.specs.declared.doing.TextOrder.TheVariants.{Exploring}
 
 -- the progress of a run on one thread is reported on request, and for no other command
 abbrev pub is_watched : Command → Settings → Bool
@@ -44,6 +45,8 @@ module _ {W : Type 0} (Told : List ℕ → W → W → Type 0) where
   WatchesDoing Answering a r old new = Watches Told (is_watched_by a.action a.settings) r old new
   WatchesDoing (Describing x) a r old new = Watches Told (is_watched (command_of x) a.settings) r old new
   WatchesDoing Timing a r old new = Unit {0}
+  WatchesDoing (Walking seed) a r old new = new ≡ old
+  WatchesDoing Exploring a r old new = new ≡ old
 
   -- on request the progress of the run is reported, up to its end if the status is that of an outcome: a
   -- failure has 1, 4 or 5
@@ -59,3 +62,5 @@ module _ {W : Type 0} (Told : List ℕ → W → W → Type 0) where
   WatchesOrder (Times a) status old new = Unit {0}
   WatchesOrder (Tests a) status old new = new ≡ old
   WatchesOrder (Each x files t) status old new = Unit {0}
+  WatchesOrder (Walks seed a) status old new = new ≡ old
+  WatchesOrder (Explores a) status old new = new ≡ old

@@ -129,6 +129,28 @@ fn carry_out<R: Threads + Wait + Sync, F: FolderSource, O: Write, E: Write, T: T
             report(done, false, err)
         }
         Order::Each(several) => do_with_each(rt, alloc, several, files, out, err, terminal),
+        Order::Walks(seed, request) => {
+            let doing = TextOrder::Walking(seed);
+            let explains = explains_on(request.telling, terminal);
+            let ordered = Ordered {
+                doing,
+                request,
+                explains,
+            };
+            let done = read_and_do(rt, alloc, ordered, files, out, terminal);
+            report(done, explains, err)
+        }
+        Order::Explores(request) => {
+            let doing = TextOrder::Exploring;
+            let explains = explains_on(request.telling, terminal);
+            let ordered = Ordered {
+                doing,
+                request,
+                explains,
+            };
+            let done = read_and_do(rt, alloc, ordered, files, out, terminal);
+            report(done, explains, err)
+        }
     }
 }
 

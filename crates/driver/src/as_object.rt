@@ -7,19 +7,20 @@ ghost use Rattle.command_line.specs.Requests.{asked_of, settings as settings_of}
 ghost use Rattle.command_words.specs.Orders.{command_of};
 ghost use Rattle.json_answers.specs.Objects.{FailsEarly, ObjectOf};
 ghost use Rattle.driver.specs.Acts.{Leaves};
-ghost use Rattle.driver.specs.Objects.{status_in};
+ghost use Rattle.driver.specs.Objects.{TellsStanding, status_in};
 ghost use Rattle.driver.specs.Orders.{DoesWithLoaded};
 ghost use Rattle.driver.specs.Traced.{TracesRun};
 ghost use Rattle.driver.specs.Watching.{WatchesDoing, is_watched};
 ghost use Rattle.driver.specs.declared.doing.TextOrder.TheVariants.{Describing};
 
 use crate::loaded::Loaded;
-use crate::tracing::run_of;
+use crate::tracing::{Schedule, run_of};
 use command_line::request::Command;
 use command_words::order::Subject;
 use commands::question::Question;
 use failures::failure::Failure;
 use files::file_source::FileSource;
+use json_answers::exploring::explored_told;
 use json_answers::object_line::ObjectLine;
 use json_answers::run_outcomes::outcome_told;
 use json_answers::running::{cost_told, serial_told};
@@ -55,6 +56,36 @@ pub(crate) fn told<R: Threads + Wait + Sync, F: FileSource, O: Write, W: Watch>(
         settings: request.settings,
     };
     match object_of(rt, alloc, subject, question, files, watch) {
+        Ok(told) => answer_object(out, &told),
+        Err(failure) => {
+            tell_refusal(rt, alloc, request.file, text, &failure, out);
+            Err(failure)
+        }
+    }
+}
+
+/// `explore --format json`: writes where the run of a text's program stands, or the reason why that
+/// isn't known.
+pub(crate) fn standing_told<R: Threads + Sync, F: FileSource, O: Write>(
+    rt: &R,
+    loaded: Loaded<'_>,
+    files: &mut F,
+    out: &mut O,
+) -> Result<u8, Failure>
+    ensures { TellsStanding loaded.entry.request.file.now (settings_of loaded.entry.request.settings)
+        loaded.entry.text.now (F.held files.old) (F.held files.new)
+        (O.contents out.old) (O.contents out.new) result }
+{
+    let Loaded {
+        alloc,
+        request,
+        text,
+    } = loaded;
+    let question = Question {
+        text,
+        settings: request.settings,
+    };
+    match explored_told(alloc, question, files) {
         Ok(told) => answer_object(out, &told),
         Err(failure) => {
             tell_refusal(rt, alloc, request.file, text, &failure, out);
@@ -104,7 +135,7 @@ fn run_told<R: Threads + Wait + Sync, F: FileSource>(
     ensures trace { TracesRun (settings_of question.entry.settings) question.entry.text.now
         (F.held files.old) (F.held files.new) (status_in result) }
 {
-    let ran = run_of(rt, alloc, question, files)?;
+    let ran = run_of(rt, alloc, Schedule::OnThreads, question, files)?;
     outcome_told(
         alloc,
         question.text,

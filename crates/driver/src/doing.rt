@@ -7,14 +7,15 @@ ghost use Rattle.driver.specs.Orders.{DoesWithLoaded, ReadsAnd, TellsUnread};
 ghost use Rattle.driver.specs.Watching.{WatchesDoing};
 
 use crate::answered::Answered;
-use crate::as_object::told;
+use crate::as_object::{standing_told, told};
 use crate::handing::handed_on;
 use crate::loaded::Loaded;
 use crate::opening::source_of;
-use crate::performing;
+use crate::performing::{perform, run_as_tasks};
 use crate::refusal::Refusal;
 use crate::source::ProgramSource;
 use crate::terminal::Terminal;
+use crate::tracing::Schedule;
 use crate::trying::time;
 use command_line::request::Request;
 use command_words::order::Subject;
@@ -36,6 +37,10 @@ pub enum TextOrder {
     Describing(Subject),
     /// The runs of the program are timed.
     Timing,
+    /// The program is run by events that are drawn from this seed.
+    Walking(u64),
+    /// One object tells where its run stands after its choices.
+    Exploring,
 }
 
 /// An order for the text of a program, its request, and whether failures and outcomes are explained.
@@ -99,6 +104,8 @@ fn tell_unread<R: Threads + Sync, O: Write>(
         TextOrder::Answering => {}
         TextOrder::Describing(_) => tell_refusal(rt, alloc, file, "", failure, out),
         TextOrder::Timing => {}
+        TextOrder::Walking(_) => {}
+        TextOrder::Exploring => tell_refusal(rt, alloc, file, "", failure, out),
     }
 }
 
@@ -118,7 +125,7 @@ fn do_with<R: Threads + Wait + Sync, F: FileSource, O: Write, T: Terminal>(
 {
     match doing {
         TextOrder::Answering => {
-            let done = performing::perform(rt, loaded, files, out, terminal);
+            let done = perform(rt, loaded, files, out, terminal);
             handed_on(out, done)
         }
         TextOrder::Describing(subject) => told(rt, subject, loaded, files, out, terminal),
@@ -130,6 +137,16 @@ fn do_with<R: Threads + Wait + Sync, F: FileSource, O: Write, T: Terminal>(
             let done = time(rt, loaded.alloc, question, files, out, terminal);
             handed_on(out, done)
         }
+        TextOrder::Walking(seed) => {
+            let question = Question {
+                text: loaded.text,
+                settings: loaded.request.settings,
+            };
+            let schedule = Schedule::Drawn(seed);
+            let done = run_as_tasks(rt, loaded.alloc, schedule, question, files, out);
+            handed_on(out, done)
+        }
+        TextOrder::Exploring => standing_told(rt, loaded, files, out),
     }
 }
 

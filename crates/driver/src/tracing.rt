@@ -1,4 +1,4 @@
-//! Parallel runs, whose trace is written if a file is named for it.
+//! Runs of tasks, on threads or drawn from a seed. Their trace is written if a file is named for it.
 
 ghost use Rattle.std.specs.Prelude.{◌≡◌, ◌<◌, IfErr, IfOk};
 ghost use Rattle.std.specs.String.{string_bytes};
@@ -12,6 +12,8 @@ ghost use Rattle.driver.specs.Traced.{IsRunOf, IsTraceOf, TellsNoOutcome, TellsN
 
 use command_line::request::{Command, RunOptions, Spread};
 use commands::question::{Begun, Question};
+use event_worlds::job::WeightedJob;
+use event_worlds::walk::{Walk, random_walk};
 use failures::failure::Failure;
 use files::file_source::{FileSource, write_file};
 use gather::run_error::RunError;
@@ -32,10 +34,20 @@ pub struct Ran {
     pub outcome: Outcome,
 }
 
-/// Runs the program of a text in parallel, on the input that was given.
+/// What decides which event of a run comes next.
+#[derive(Clone, Copy, PartialEq, Eq, Debug)]
+pub enum Schedule {
+    /// Worker threads, each at its own speed.
+    OnThreads,
+    /// `walk`: a generator with this seed. No thread is started.
+    Drawn(u64),
+}
+
+/// Runs the program of a text as tasks, on the input that was given.
 pub fn run_of<R: Threads + Wait + Sync, F: FileSource>(
     rt: &R,
     alloc: Global,
+    schedule: Schedule,
     question: Question<'_>,
     files: &mut F,
 ) -> Result<Ran, Failure>
@@ -47,15 +59,16 @@ pub fn run_of<R: Threads + Wait + Sync, F: FileSource>(
         (F.held files.old) (F.held files.new) result }
 {
     let given = question.begun(rt, alloc, files)?;
-    let outcome = outcome_of(rt, alloc, question.settings, &given, files)?;
+    let outcome = outcome_of(rt, alloc, schedule, question.settings, &given, files)?;
     Ok(Ran { given, outcome })
 }
 
-/// Returns the outcome of a parallel run. If a file is named for its trace, the trace is written
-/// before the outcome is returned.
+/// Returns the outcome of a run. If a file is named for its trace, the trace is written before the
+/// outcome is returned.
 fn outcome_of<R: Threads + Wait + Sync, F: FileSource>(
     rt: &R,
     alloc: Global,
+    schedule: Schedule,
     settings: RunOptions<'_>,
     given: &Begun,
     files: &mut F,
@@ -68,16 +81,62 @@ fn outcome_of<R: Threads + Wait + Sync, F: FileSource>(
         (F.held files.old) (F.held files.new) result }
 {
     match settings.trace {
-        None => untraced(rt, alloc, settings, given),
+        None => untold(rt, alloc, schedule, settings, given),
         Some(name) => {
-            let (outcome, trace) = traced(rt, alloc, settings, given)?;
+            let (outcome, trace) = told(rt, alloc, schedule, settings, given)?;
             write_file(alloc, files, name, trace.as_bytes())?;
             Ok(outcome)
         }
     }
 }
 
-/// Returns the outcome of a run that isn't recorded.
+/// Returns the outcome of a run whose trace isn't asked for.
+fn untold<R: Threads + Wait + Sync>(
+    rt: &R,
+    alloc: Global,
+    schedule: Schedule,
+    settings: RunOptions<'_>,
+    given: &Begun,
+) -> Result<Outcome, Failure>
+    requires { Fits given.now.accepted.typed given.now.input }
+    ensures outcome { IfOk result
+        (IsOutcomeOf given.now.accepted.typed given.now.input settings.entry.budget) }
+    ensures why { IfErr result (TellsNoOutcome (settings_of settings.entry)) }
+{
+    match schedule {
+        Schedule::OnThreads => untraced(rt, alloc, settings, given),
+        Schedule::Drawn(seed) => {
+            let (outcome, _) = drawn(alloc, settings, given, seed)?;
+            Ok(outcome)
+        }
+    }
+}
+
+/// Returns the outcome of a run, and the lines of its trace.
+fn told<R: Threads + Wait + Sync>(
+    rt: &R,
+    alloc: Global,
+    schedule: Schedule,
+    settings: RunOptions<'_>,
+    given: &Begun,
+) -> Result<(Outcome, String), Failure>
+    requires fits { Fits given.now.accepted.typed given.now.input }
+    requires traced { IsTraced (settings_of settings) }
+    ensures outcome { IfOk result
+        (λ r. IsOutcomeOf given.now.accepted.typed given.now.input settings.entry.budget r.0) }
+    ensures trace { IfOk result (λ r. IsTraceOf (code_of given.now.accepted.typed)
+        (lists_in given.now.input) (settings_of settings.entry) (string_bytes r.1)) }
+    ensures why { IfErr result (TellsNoOutcome (settings_of settings.entry)) }
+{
+    match schedule {
+        Schedule::OnThreads => traced(rt, alloc, settings, given),
+        Schedule::Drawn(seed) => drawn(alloc, settings, given, seed),
+    }
+}
+
+// ---- on threads
+
+/// Returns the outcome of a parallel run that isn't recorded.
 fn untraced<R: Threads + Wait + Sync>(
     rt: &R,
     alloc: Global,
@@ -96,7 +155,7 @@ fn untraced<R: Threads + Wait + Sync>(
     }
 }
 
-/// Returns the outcome of a run, and the lines of its trace.
+/// Returns the outcome of a parallel run, and the lines of its trace.
 fn traced<R: Threads + Wait + Sync>(
     rt: &R,
     alloc: Global,
@@ -125,6 +184,41 @@ fn traced<R: Threads + Wait + Sync>(
     let Some(log) = log else { unreachable!() };
     match write_lines(alloc, &header, log.events()) {
         Ok(lines) => Ok((finished.outcome, lines)),
+        Err(_) => Err(Failure::NoMemory),
+    }
+}
+
+// ---- drawn from a seed
+
+/// Returns the outcome of a run whose events are drawn from a seed, and the lines of its trace.
+fn drawn(
+    alloc: Global,
+    settings: RunOptions<'_>,
+    given: &Begun,
+    seed: u64,
+) -> Result<(Outcome, String), Failure>
+    requires { Fits given.now.accepted.typed given.now.input }
+    ensures outcome { IfOk result
+        (λ r. IsOutcomeOf given.now.accepted.typed given.now.input settings.entry.budget r.0) }
+    ensures trace { IfOk result (λ r. IsTraceOf (code_of given.now.accepted.typed)
+        (lists_in given.now.input) (settings_of settings.entry) (string_bytes r.1)) }
+    ensures why { IfErr result (TellsNoOutcome (settings_of settings.entry)) }
+{
+    let on = run_settings(settings);
+    let header = header_of(on);
+    let Some(job) = WeightedJob::new(alloc, &given.accepted, &given.input, on.budget, on.w0) else {
+        unreachable!()
+    };
+    let Ok(walk) = random_walk(job, header.workers, seed, usize::MAX) else {
+        return Err(Failure::NoMemory);
+    };
+    let Walk { events, world } = walk;
+    // Without an outcome, a task needs weight from a scope that has issued it 2^31 times.
+    let Some(outcome) = world.told else {
+        return Err(Failure::NoMemory);
+    };
+    match write_lines(alloc, &header, &events) {
+        Ok(lines) => Ok((outcome, lines)),
         Err(_) => Err(Failure::NoMemory),
     }
 }

@@ -5,5 +5,6 @@ pub mod GivenBack
 pub mod NoFloatsInRaces
 pub mod ShallowRaces
 pub mod SoFar
+pub mod Exploring
 pub mod Failures
 pub mod Written

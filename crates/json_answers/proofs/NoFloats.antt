@@ -14,6 +14,8 @@ use Rattle.types.specs.Code.{Array}
 use Rattle.types.specs.Outcome.{Outcome, Ended, Stopped}
 use Rattle.types.specs.Run.{Fault}
 use Rattle.failures.specs.declared.failure.Failure.{Failure}
+use Rattle.step_trees.specs.Standing.{Candidate}
+use Rattle.json_answers.specs.Candidates.{candidate_json, candidate_members, open_json, open_members}
 use Rattle.json_answers.specs.Faults.{fault_json, fault_members, raised_number}
 use Rattle.json_answers.specs.Outcomes.{ended_members, numbers_json, put_arrays, outcome_json}
 use Rattle.json_answers.specs.Pieces.{integer, natural, list_by, or_null, members_by, object_of}
@@ -103,6 +105,19 @@ outcome_has_none declared places (Ended e) =
       ),
     )
 outcome_has_none declared places Stopped = refl
+
+candidate_has_none : (places : List TextPlace) (c : Candidate) → HasNoFloat (candidate_json places c)
+candidate_has_none places c =
+    let place = place_at places c.label in
+    object_has_none (candidate_members places c) (
+      or_null_has_none natural (column_of place) natural_has_none,
+      (refl, (or_null_has_none natural (line_of place) natural_has_none, (refl, tt))),
+    )
+
+pub open_has_none : (places : List TextPlace) (cs : List Candidate) → HasNoFloat (open_json places cs)
+open_has_none places cs =
+    object_has_none (open_members places cs)
+    (list_has_none (candidate_json places) cs (candidate_has_none places), (refl, tt))
 
 pub pairs_have_none : (pairs : List (ℕ × ℕ)) → HasNoFloat (pairs_json pairs)
 pairs_have_none pairs =

@@ -14,6 +14,8 @@ use Rattle.types.specs.Outcome.{Outcome, Ended, Stopped}
 use Rattle.types.specs.Run.{Fault}
 use Rattle.failures.specs.declared.failure.Failure.{Failure}
 use Rattle.cost.specs.declared.cost.Cost.{Cost}
+use Rattle.step_trees.specs.Standing.{Candidate}
+use Rattle.json_answers.specs.Candidates.{candidate_json, candidate_members, open_json, open_members}
 use Rattle.json_answers.specs.Costs.{cost_json}
 use Rattle.json_answers.specs.Faults.{fault_json, fault_members, raised_number}
 use Rattle.json_answers.specs.Outcomes.{ended_members, numbers_json, put_arrays, outcome_json}
@@ -122,6 +124,20 @@ pub pairs_within : (pairs : List (ℕ × ℕ)) → depth (pairs_json pairs) ≤ 
 pairs_within pairs =
     let whole = object_within 2 (pairs_members pairs)
     (list_within 1 pair_json pairs (λ pair. list_within 0 natural (pair.0 ∷ pair.1 ∷ []) natural_within), (omega arith, tt)) in
+    omega arith
+
+candidate_within : (places : List TextPlace) (c : Candidate) → Within 1 (candidate_json places c)
+candidate_within places c =
+    let place = place_at places c.label in
+    object_within 0 (candidate_members places c) (
+      or_null_within 0 natural (column_of place) natural_within,
+      (omega arith, (or_null_within 0 natural (line_of place) natural_within, (omega arith, tt))),
+    )
+
+pub open_within : (places : List TextPlace) (cs : List Candidate) → depth (open_json places cs) ≤ max_depth
+open_within places cs =
+    let whole = object_within 2 (open_members places cs)
+    (list_within 1 (candidate_json places) cs (candidate_within places), (omega arith, tt)) in
     omega arith
 
 pub string_within : (s : List ℕ) → Within 0 (string s)

@@ -1,4 +1,6 @@
+pub mod Candidates
 pub mod Costs
+pub mod Explored
 pub mod Failing
 pub mod Faults
 pub mod Given

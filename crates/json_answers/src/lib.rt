@@ -3,6 +3,7 @@
 #![tactic(auto)]
 
 pub mod costs;
+pub mod exploring;
 pub mod failed;
 pub mod faults;
 pub mod found;
@@ -16,6 +17,7 @@ pub mod races;
 pub mod refusals;
 pub mod run_outcomes;
 pub mod running;
+pub mod standings;
 pub mod steps;
 pub mod telling;
 pub mod text_places;

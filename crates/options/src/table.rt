@@ -156,6 +156,18 @@ const RANDOM: Entry = Entry {
     takes: Takes::Seed,
 };
 
+const WALKERS: Entry = Entry {
+    name: "workers",
+    help: "Number of workers between which tasks are stolen, 1 to 64 [default: 4]; starts no thread",
+    takes: Takes::Number(1, 64),
+};
+
+const SEEDED: Entry = Entry {
+    name: "seed",
+    help: "Seed of the schedule, 0 to 18446744073709551615 [default: 0]",
+    takes: Takes::Seed,
+};
+
 const TRACED: Entry = Entry {
     name: "trace",
     help: "Write a trace of the run to this file, about 40 bytes per step",
@@ -291,9 +303,16 @@ Example: afx test examples/tested";
 
 const EXPLORE_EXAMPLE: &str =
     "A choice is the number of the task that takes the next step. The tasks that can take one are numbered from 0 in
-depth-first order. A task can take a step unless it has ended or is waiting at a finish.
+depth-first order. A task can take a step unless it has ended or is waiting at a finish. With --format json the answer
+lists them in this order, each with its next statement, and a program with a race is explored too.
 
 Example: afx explore examples/two_arrays.afx --choices 0,0,1";
+
+const WALK_EXAMPLE: &str =
+    "The workers take, steal and run tasks in an order that is drawn from the seed, one event after the other. The outcome
+is that of `afx run`; the trace is one that `afx run` could have written, the same on every machine.
+
+Example: afx walk examples/two_arrays.afx --workers 2 --seed 7 --trace two_arrays.trace";
 
 const VIEW_EXAMPLE: &str =
     "FILE and JSON are the program and the input of the traced run. The trace records its budget and its workers. A trace
@@ -396,8 +415,18 @@ const EXPLORED: Row = Row {
         CHOICES_FROM,
         RANDOM,
         ARRAYS,
+        FORMAT,
         EXPLAIN,
         COLOR,
+    ],
+};
+
+const WALKED: Row = Row {
+    name: "walk",
+    about: "Run a program under a random schedule with steals, without threads",
+    example: WALK_EXAMPLE,
+    entries: &[
+        FILE, INPUT, STEPS, NEST, W0, WALKERS, SEEDED, TRACED, ARRAYS, EXPLAIN, COLOR,
     ],
 };
 
@@ -430,9 +459,9 @@ const MANUAL: Row = Row {
 };
 
 /// All commands, in the order of the help.
-const ROWS: [Row; 14] = [
-    RUN, SERIAL, CHECKED, LISTED, FORMATTED, PAIRED, COSTED, BENCHED, TESTED, EXPLORED, VIEWED,
-    EXPLAINED, COMPLETED, MANUAL,
+const ROWS: [Row; 15] = [
+    RUN, SERIAL, CHECKED, LISTED, FORMATTED, PAIRED, COSTED, BENCHED, TESTED, EXPLORED, WALKED,
+    VIEWED, EXPLAINED, COMPLETED, MANUAL,
 ];
 
 /// The text after the help of the program.
@@ -463,6 +492,7 @@ pub const CLOSING: Closing<'static> = Closing {
         BENCH_EXAMPLE,
         TEST_EXAMPLE,
         EXPLORE_EXAMPLE,
+        WALK_EXAMPLE,
         VIEW_EXAMPLE,
         EXPLAIN_EXAMPLE,
         COMPLETIONS_EXAMPLE,

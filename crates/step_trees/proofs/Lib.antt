@@ -25,6 +25,7 @@ pub mod PlacesTouched
 pub mod ReachedTrees
 pub mod Rests
 pub mod Scopes
+pub mod Standings
 pub mod Statements
 pub mod Steps
 pub mod Turns

@@ -29,7 +29,11 @@ const ROWS: &[(&str, &str)] = &[
     ("test", " steps nest tasks w0 workers"),
     (
         "explore",
-        " input choices choices-from random arrays explain color",
+        " input choices choices-from random arrays format explain color",
+    ),
+    (
+        "walk",
+        " input steps nest w0 workers seed trace arrays explain color",
     ),
     ("view", " input summary svg chrome explain color"),
     ("explain", " list"),

@@ -1,10 +1,10 @@
 use Rattle.std.proofs.Common.{ap, map, refl, sym}
 use Rattle.command_line.specs.Requests.{asked_of}
 use Rattle.std.specs.String.{string_bytes}
-use Rattle.command_words.specs.Orders.{AsText, AsObject, Times, Tests, Each, command_of, order}
+use Rattle.command_words.specs.Orders.{AsText, AsObject, Times, Tests, Each, Walks, Explores, command_of, order}
 use Rattle.driver.specs.Acts.{in_short}
 use Rattle.driver.specs.Watching.{is_watched, is_watched_by}
-use Rattle.driver.specs.declared.doing.TextOrder.TheVariants.{Answering, Describing, Timing}
+use Rattle.driver.specs.declared.doing.TextOrder.TheVariants.{Answering, Describing, Exploring, Timing, Walking}
 use Rattle.driver.proofs.Ordered.{acted, ordered, tested_as}
 use Rattle.driver.proofs.Watched.{reported_watched, watched_as}
 use Rattle.driver.proofs.act.carry_out.Goals as goal
@@ -71,3 +71,27 @@ returns-in-Each-clause-watched g c =
     let several = c.in-Each.several in
     watched_as g.T.Watch.Told _ _ (Each several.action (map string_bytes several.files.now) several.telling)
     (order c.args.order) (sym (ap order c.in-Each.is)) _ tt
+
+pub returns-in-Walks-clause-acts : goal.returns-in-Walks-clause-acts
+returns-in-Walks-clause-acts g c =
+    let seed = c.in-Walks.seed in let asked = asked_of c.in-Walks.request in let done = c.read_and_do-done-in-Walks in
+    ordered _ _ _ _ _ _ _ _ _ (Walks seed asked) (order c.args.order) (sym (ap order c.in-Walks.is))
+    (acted _ _ _ _ _ _ _ _ (Walking seed) asked (in_short done.result) _ c.explains_on-explains-in-Walks.ensures
+    done.ensures.done c.report-in-Walks.ensures)
+
+pub returns-in-Walks-clause-watched : goal.returns-in-Walks-clause-watched
+returns-in-Walks-clause-watched g c =
+    watched_as g.T.Watch.Told _ _ (Walks c.in-Walks.seed (asked_of c.in-Walks.request)) (order c.args.order)
+    (sym (ap order c.in-Walks.is)) _ c.read_and_do-done-in-Walks.ensures.watched
+
+pub returns-in-Explores-clause-acts : goal.returns-in-Explores-clause-acts
+returns-in-Explores-clause-acts g c =
+    let asked = asked_of c.in-Explores.request in let done = c.read_and_do-done-in-Explores in
+    ordered _ _ _ _ _ _ _ _ _ (Explores asked) (order c.args.order) (sym (ap order c.in-Explores.is))
+    (acted _ _ _ _ _ _ _ _ Exploring asked (in_short done.result) _ c.explains_on-explains-in-Explores.ensures
+    done.ensures.done c.report-in-Explores.ensures)
+
+pub returns-in-Explores-clause-watched : goal.returns-in-Explores-clause-watched
+returns-in-Explores-clause-watched g c =
+    watched_as g.T.Watch.Told _ _ (Explores (asked_of c.in-Explores.request)) (order c.args.order)
+    (sym (ap order c.in-Explores.is)) _ c.read_and_do-done-in-Explores.ensures.watched
