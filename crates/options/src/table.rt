@@ -489,7 +489,10 @@ const TESTED: Row = Row {
 const SCHEDULES: Entry = Entry {
     name: "html",
     help: "Write a page to this HTML file in which each step can be chosen in a browser",
-    takes: Takes::TextBut("OUT", &["choices", "choices-from", "random", "arrays", "format"]),
+    takes: Takes::TextBut(
+        "OUT",
+        &["choices", "choices-from", "random", "arrays", "format"],
+    ),
 };
 
 const EXPLORED: Row = Row {

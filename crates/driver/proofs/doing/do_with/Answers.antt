@@ -57,6 +57,7 @@ pub returns-in-TimingAsObject-clause-watched : goal.returns-in-TimingAsObject-cl
 returns-in-TimingAsObject-clause-watched g c =
     watched_so g.T.Watch.Told _ _ c.args.doing TimingAsObject c.in-TimingAsObject.is (asked_of c.args.loaded.request)
     c.time_as_object.result tt
+
 pub returns-in-Walking-clause-done : goal.returns-in-Walking-clause-done
 returns-in-Walking-clause-done g c =
     let request = c.args.loaded.request in let text = c.args.loaded.text.now in
