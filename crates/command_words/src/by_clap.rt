@@ -86,10 +86,13 @@ fn ordered<'w>(
     asked: Option<(&str, &ArgMatches<'w>)>,
 ) -> Result<Order<'w>, Error> {
     let run = Action::Answer(Command::Run);
+    let serial = Action::Answer(Command::Serial);
     match asked {
         Some(("bench", given)) => Ok(timing(given, asking(alloc, words, run, given)?)),
         Some(("test", given)) => Ok(Order::Tests(asking(alloc, words, run, given)?)),
         Some(("walk", given)) => Ok(walking(given, asking(alloc, words, run, given)?)),
+        Some(("inspect", given)) => Ok(Order::Inspects(asking(alloc, words, serial, given)?)),
+        Some(("explore", given)) => { Ok(exploring(given, request_asked(alloc, words, asked)?)) }
         asked => Ok(told(asked, request_asked(alloc, words, asked)?)),
     }
 }
@@ -156,7 +159,7 @@ fn action_asked(word: &str, given: &ArgMatches<'_>) -> Option<Action> {
         "list" => Action::Answer(listing(given)),
         "mhp" => Action::Answer(pairing(given)),
         "cost" => Action::Answer(costing(given)),
-        "explore" => Action::Answer(exploring(given)),
+        "explore" => Action::Answer(explored(given)),
         "view" => Action::Answer(viewing(given)),
         _ => return None,
     })
@@ -214,7 +217,7 @@ fn costing(given: &ArgMatches<'_>) -> Command {
 }
 
 /// Returns which command `explore` is.
-fn exploring(given: &ArgMatches<'_>) -> Command {
+fn explored(given: &ArgMatches<'_>) -> Command {
     if given.get_str("html").is_some() {
         Command::Schedules
     } else {

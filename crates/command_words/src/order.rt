@@ -30,6 +30,8 @@ pub enum Order<'w> {
     Walks(u64, Request<'w>),
     /// `explore` with one object as its answer.
     Explores(Schedules, Request<'w>),
+    /// `inspect`: one object with the answers of `check`, `list` and `serial` for a program.
+    Inspects(Request<'w>),
 }
 
 /// Which schedules of a program an object tells about.
@@ -70,7 +72,8 @@ impl Order<'_> {
             | Order::TimesAsObject(request)
             | Order::Tests(request)
             | Order::Walks(_, request)
-            | Order::Explores(_, request) => names_once(request),
+            | Order::Explores(_, request)
+            | Order::Inspects(request) => names_once(request),
             Order::TestsEach(_) | Order::TestsAsObject(_) | Order::Each(_) => true,
         }
     }

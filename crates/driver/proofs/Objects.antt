@@ -3,21 +3,20 @@ use Rattle.std.proofs.Common.{◌≡◌, ℕ, List, Option, Some, None, Result, 
 use Rattle.std.specs.Prelude.{IsErrAnd}
 use Rattle.std.specs.String.{string_bytes}
 use Rattle.command_line.specs.Requests.{Settings}
+use Rattle.command_line.specs.declared.request.Command.{Command}
 use Rattle.command_line.specs.declared.request.Command.TheVariants.{Run}
 use Rattle.files.specs.Held.{Held}
 use Rattle.failures.specs.declared.failure.Failure.{Failure}
 use Rattle.failures.specs.declared.failure.Failure.TheVariants.{NoMemory}
 use Rattle.std.specs.Prelude.{◌≢◌}
-use Rattle.printing.specs.Appending.{Writes}
 use Rattle.commands.specs.Answers.{IsExplored}
 use Rattle.commands.proofs.Answering.{other_failure}
-use Rattle.json_answers.specs.Explored.{FailsUnexplored, TellsUnexplored, not_written}
+use Rattle.json_answers.specs.Inspected.{Describes, answered, refused}
 use Rattle.json_answers.specs.Objects.{FailsEarly, ObjectOf}
 use Rattle.json_answers.specs.Failing.{IsToldAsObject, TellsFailure}
 use Rattle.json_answers.specs.declared.object_line.ObjectLine.{ObjectLine}
 use Rattle.json_answers.proofs.Written.{object_refused}
 use Rattle.command_words.specs.Orders.{command_of}
-use Rattle.command_words.specs.declared.order.Schedules.{Schedules}
 use Rattle.command_words.specs.declared.order.Subject.{Subject}
 pub use Rattle.test_and_bench.proofs.Objects.{same_outcome}
 use Rattle.command_words.specs.declared.order.Subject.TheVariants.{Summary as SummaryTold}
@@ -26,7 +25,7 @@ use Rattle.failures.specs.declared.failure.Failure.TheVariants.{CannotWriteOutpu
 use Rattle.viewing.proofs.Viewing.{explained, other}
 use Rattle.viewing.specs.Files.{Wrote, WritesTo}
 use Rattle.driver.specs.Acts.{ExplainsAny, Leaves}
-use Rattle.driver.specs.Objects.{FailsEarlyAny, ObjectOfAny, ObjectOfSchedules, TellsObject, TellsSchedules, status_in}
+use Rattle.driver.specs.Objects.{FailsEarlyAny, IsDescribed, ObjectOfAny, TellsObject, status_in}
 use Rattle.driver.specs.Traced.{TellsNoRun, WritesTrace}
 use Rattle.driver.proofs.Leaving.{no_run_explained, no_run_other}
 
@@ -91,35 +90,13 @@ module _ (T : Type 0) (P Q : (bytes : List ℕ) → Type 0) (held later : Held) 
   traced_behind None x r w only = w
   traced_behind (Some name) x r w only = written_behind name r w only
 
--- ---- schedules
+-- ---- several answers
 
-module _ (x : Schedules) (file : List ℕ) (s : Settings) (text : List ℕ) (held later : Held) (old new : Option (List ℕ)) (keeps : later ≡ held) where
-  -- its object was written, or a prefix of it
-  pub schedules_written : (t : ObjectLine) (r : Result ℕ Failure) → ObjectOfSchedules x s held text (string_bytes t.line) t.status
-      → Writes old new r (string_bytes t.line) → IfOk r (λ n. n ≡ t.status) → IfErr r (λ f. f ≡ CannotWriteOutput)
-      → TellsSchedules x file s text held later old new r
-  schedules_written t (Ok n) object written is only = record {
-    done = record {
-      told = string_bytes t.line;
-      answers = subst (ObjectOfSchedules x s held text (string_bytes t.line)) (sym is) object;
-      written = written;
-    };
-    keeps = keeps;
-  }
-  schedules_written t (Err f) object written is only = record {
-    done = record {
-      why = subst (TellsUnexplored s held text) (sym only) not_written;
-      told = λ other. absurd (other only);
-      begun = λ _. record { told = string_bytes t.line; status = t.status; answers = object; begun = written };
-    };
-    keeps = keeps;
-  }
-
-  -- a failure whose object was written
-  pub schedules_refused : (f : Failure) → FailsUnexplored s held text f → IsToldAsObject (TellsFailure file text f) old new
-      → TellsSchedules x file s text held later old new (Err f)
-  schedules_refused f fails is_told = record {
-    done = object_refused (ObjectOfSchedules x s held text) (TellsUnexplored s held text) (TellsFailure file text) old new f
-        fails.why fails.early is_told;
-    keeps = keeps;
-  }
+-- what a command writes as one object
+pub describes : (c : Command) (file : List ℕ) (s : Settings) (held : Held) (text : List ℕ) (done : Result ObjectLine Failure)
+    (t : ObjectLine) → IfOk done (λ o. ObjectOf c s held text (string_bytes o.line) o.status)
+    → IfErr done (FailsEarly c s held text) → IsDescribed file text done t
+    → Describes c file s held text (string_bytes t.line) t.status
+describes c file s held text (Ok o) t object why is =
+    subst (λ (u : ObjectLine). Describes c file s held text (string_bytes u.line) u.status) (sym is) (answered object)
+describes c file s held text (Err f) t object why is = refused f why is.0 is.1

@@ -1,15 +1,19 @@
 -- Answers as one object.
 use Rattle.std.specs.Prelude.{ℕ, ◌≡◌, List, Option, Result, Ok, Err, MatchResult}
+use Rattle.std.specs.String.{string_bytes}
 use Rattle.command_line.specs.declared.request.Command.{Command}
 use Rattle.command_line.specs.declared.request.Command.TheVariants.{Summary}
 use Rattle.command_line.specs.Requests.{Settings}
 use Rattle.files.specs.Held.{Held}
+use Rattle.failures.specs.FailureStatus.{failure_status}
 use Rattle.failures.specs.declared.failure.Failure.{Failure}
+use Rattle.failures.specs.declared.failure.Failure.TheVariants.{CannotWriteOutput, NoMemory}
 use Rattle.commands.specs.Answers.{Answer, Wrote}
 use Rattle.json_answers.specs.Objects.{FailsEarly, ObjectOf}
 use Rattle.json_answers.specs.AllEnds.{ObjectOfEnds}
 use Rattle.json_answers.specs.Explored.{ObjectOfStanding, TellsUnexplored}
 use Rattle.json_answers.specs.Failing.{FailedAsObject, TellsFailure}
+use Rattle.json_answers.specs.Inspected.{ObjectOfInspect}
 use Rattle.json_answers.specs.declared.object_line.ObjectLine.{ObjectLine}
 use Rattle.command_words.specs.Orders.{command_of}
 use Rattle.command_words.specs.declared.order.Schedules.{Schedules}
@@ -47,6 +51,24 @@ pub record TellsSchedules (x : Schedules) (file : List ℕ) (s : Settings) (text
     (old new : Option (List ℕ)) (r : Result ℕ Failure) : Type 0 where
   pub done : MatchResult r (Wrote (ObjectOfSchedules x s held text) old new)
       (FailedAsObject (ObjectOfSchedules x s held text) (TellsUnexplored s held text) (TellsFailure file text) old new)
+  pub keeps : later ≡ held
+
+-- an answer, or the object of the failure why there is none and its status
+abbrev pub IsDescribed : (file text : List ℕ) → Result ObjectLine Failure → ObjectLine → Type 0
+IsDescribed file text (Ok o) t = t ≡ o
+IsDescribed file text (Err f) t = TellsFailure file text f (string_bytes t.line) × (t.status ≡ failure_status f)
+
+-- why several answers aren't written as one object
+abbrev pub IsNotInspected : Failure → Type 0
+IsNotInspected NoMemory = Unit {0}
+IsNotInspected CannotWriteOutput = Unit {0}
+IsNotInspected _ = ⊥
+
+-- they were written; or there is a reason why they weren't, and its object was written
+pub record TellsInspected (file : List ℕ) (s : Settings) (text : List ℕ) (held later : Held)
+    (old new : Option (List ℕ)) (r : Result ℕ Failure) : Type 0 where
+  pub done : MatchResult r (Wrote (ObjectOfInspect file s held text) old new)
+      (FailedAsObject (ObjectOfInspect file s held text) IsNotInspected (TellsFailure file text) old new)
   pub keeps : later ≡ held
 
 -- the status of an object

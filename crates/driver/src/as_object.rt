@@ -26,6 +26,7 @@ use failures::failure::Failure;
 use files::file_source::FileSource;
 use json_answers::all_ends::all_ends_told;
 use json_answers::exploring::explored_told;
+use json_answers::failed::refusal_line;
 use json_answers::object_line::ObjectLine;
 use json_answers::refused_program::RefusedProgram;
 use json_answers::run_outcomes::outcome_told;
@@ -34,7 +35,7 @@ use json_answers::shares::shares_told;
 use json_answers::telling::{check_told, format_told, list_told, pairs_told};
 use json_answers::writing::{answer_object, tell_refusal};
 use statement_steps::watch::Watch;
-use std::alloc::Global;
+use std::alloc::{AllocError, Global};
 use std::io::Write;
 use std::sync::Wait;
 use std::thread::Threads;
@@ -149,6 +150,31 @@ pub(crate) fn tell_explained<R: Threads + Sync, F: FileSource, O: Write>(
         };
         tell_refusal(rt, alloc, refused, failure, out);
     }
+}
+
+/// Returns the line of the object of a failure, with its explanation.
+pub(crate) fn line_explained<R: Threads + Sync, F: FileSource>(
+    rt: &R,
+    loaded: Loaded<'_>,
+    files: &mut F,
+    failure: &Failure,
+) -> Result<String, AllocError>
+    ensures told { IfOk result (λ line. TellsFailure loaded.entry.request.file.now
+        loaded.entry.text.now failure.now (string_bytes line)) }
+    ensures keeps { F.held files.new ≡ F.held files.old }
+{
+    let Loaded {
+        alloc,
+        request,
+        text,
+    } = loaded;
+    let more = explanation(rt, alloc, files, request, text, failure)?;
+    let refused = RefusedProgram {
+        file: request.file,
+        text,
+        explanation: more.as_str(),
+    };
+    refusal_line(rt, alloc, refused, failure)
 }
 
 /// Returns the object of the answer for a text.

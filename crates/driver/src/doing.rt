@@ -10,6 +10,7 @@ ghost use Rattle.json_answers.specs.Failing.{IsToldAsObject, TellsFailure};
 use crate::answered::Answered;
 use crate::as_object::{schedules_told, told};
 use crate::handing::handed_on;
+use crate::inspecting::inspected_told;
 use crate::loaded::Loaded;
 use crate::more::More;
 use crate::opening::source_of;
@@ -47,6 +48,8 @@ pub enum TextOrder {
     Walking(u64),
     /// One object tells about these schedules of the program.
     Exploring(Schedules),
+    /// Several answers are written as one object.
+    Inspecting,
 }
 
 /// An order for the text of a program, its request, and what follows an answer or a failure.
@@ -116,6 +119,7 @@ fn tell_unread<R: Threads + Sync, F: FileSource, O: Write>(
         TextOrder::TimingAsObject => tell_unread_file(rt, alloc, file, files, failure, out),
         TextOrder::Walking(_) => {}
         TextOrder::Exploring(_) => tell_unread_file(rt, alloc, file, files, failure, out),
+        TextOrder::Inspecting => tell_unread_file(rt, alloc, file, files, failure, out),
     }
 }
 
@@ -182,6 +186,7 @@ fn do_with<R: Threads + Wait + Sync, F: FileSource, O: Write, T: Terminal>(
             handed_on(out, done)
         }
         TextOrder::Exploring(schedules) => schedules_told(rt, schedules, loaded, files, out),
+        TextOrder::Inspecting => inspected_told(rt, loaded, files, out),
     }
 }
 

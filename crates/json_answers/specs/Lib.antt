@@ -3,6 +3,7 @@ pub mod Candidates
 pub mod Costs
 pub mod Explored
 pub mod Failing
+pub mod Inspected
 pub mod Faults
 pub mod Given
 pub mod Objects

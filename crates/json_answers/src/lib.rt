@@ -8,6 +8,7 @@ pub mod exploring;
 pub mod failed;
 pub mod faults;
 pub mod found;
+pub mod inspecting;
 pub mod laws;
 pub mod line;
 pub mod names;

@@ -384,6 +384,13 @@ lists them in this order, each with its next statement, and a program with a rac
 Example: afx explore examples/two_arrays.afx --choices 0,0,1
 Example: afx explore examples/two_arrays.afx --html two_arrays.html";
 
+const INSPECT_EXAMPLE: &str =
+    "The object has three members, each of which is exactly what that command prints with --format json: `check`, `list` and
+`serial`. If the program is rejected, the first one says why, and what would be right. The status is that of `check`, or
+that of `serial` if the program is accepted.
+
+Example: afx inspect examples/race.afx";
+
 const WALK_EXAMPLE: &str =
     "The workers take, steal and run tasks in an order that is drawn from the seed, one event after the other. The outcome
 is that of `afx run`; the trace is one that `afx run` could have written, the same on every machine.
@@ -525,6 +532,13 @@ const WALKED: Row = Row {
     ],
 };
 
+const INSPECTED: Row = Row {
+    name: "inspect",
+    about: "Check, list and run a program, and print one JSON object",
+    example: INSPECT_EXAMPLE,
+    entries: &[FILE, INPUT, SET, TEXT, STEPS, NEST],
+};
+
 const VIEWED: Row = Row {
     name: "view",
     about: "Show the trace of a run as a table, as totals, as a picture or as a page",
@@ -569,9 +583,9 @@ const MANUAL: Row = Row {
 };
 
 /// All commands, in the order of the help.
-const ROWS: [Row; 15] = [
+const ROWS: [Row; 16] = [
     RUN, SERIAL, CHECKED, LISTED, FORMATTED, PAIRED, COSTED, BENCHED, TESTED, EXPLORED, WALKED,
-    VIEWED, EXPLAINED, COMPLETED, MANUAL,
+    INSPECTED, VIEWED, EXPLAINED, COMPLETED, MANUAL,
 ];
 
 /// The text after the help of the program.
@@ -603,6 +617,7 @@ pub const CLOSING: Closing<'static> = Closing {
         TEST_EXAMPLE,
         EXPLORE_EXAMPLE,
         WALK_EXAMPLE,
+        INSPECT_EXAMPLE,
         VIEW_EXAMPLE,
         EXPLAIN_EXAMPLE,
         COMPLETIONS_EXAMPLE,

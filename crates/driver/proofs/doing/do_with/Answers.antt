@@ -1,7 +1,7 @@
 use Rattle.std.proofs.Common.{refl}
 use Rattle.command_line.specs.Requests.{asked_of, settings as settings_of}
 use Rattle.driver.specs.declared.doing.TextOrder.TheVariants.{Answering, Describing, Timing, TimingAsObject}
-use Rattle.driver.specs.declared.doing.TextOrder.TheVariants.{Exploring, Walking}
+use Rattle.driver.specs.declared.doing.TextOrder.TheVariants.{Exploring, Inspecting, Walking}
 use Rattle.driver.proofs.Acting.{handed_over}
 use Rattle.driver.proofs.Ordered.{does_so}
 use Rattle.driver.proofs.Tried.{times_on}
@@ -82,3 +82,13 @@ pub returns-in-Exploring-clause-watched : goal.returns-in-Exploring-clause-watch
 returns-in-Exploring-clause-watched g c =
     watched_so g.T.Watch.Told _ _ c.args.doing (Exploring c.in-Exploring.schedules) c.in-Exploring.is (asked_of c.args.loaded.request)
     c.schedules_told.result refl
+
+pub returns-in-Inspecting-clause-done : goal.returns-in-Inspecting-clause-done
+returns-in-Inspecting-clause-done g c =
+    does_so c.args.doing Inspecting c.in-Inspecting.is (asked_of c.args.loaded.request) c.args.loaded.text.now _ _ _ _
+    c.inspected_told.result c.inspected_told.ensures
+
+pub returns-in-Inspecting-clause-watched : goal.returns-in-Inspecting-clause-watched
+returns-in-Inspecting-clause-watched g c =
+    watched_so g.T.Watch.Told _ _ c.args.doing Inspecting c.in-Inspecting.is (asked_of c.args.loaded.request)
+    c.inspected_told.result refl
