@@ -38,6 +38,7 @@ const ROWS: &[(&str, &str)] = &[
         "walk",
         " input set text steps nest w0 workers seed trace arrays explain color",
     ),
+    ("inspect", " input set text steps nest"),
     (
         "view",
         " input set text summary by-line svg chrome html upgrade format explain color",
