@@ -393,7 +393,7 @@ Example: afx inspect examples/race.afx";
 
 const WALK_EXAMPLE: &str =
     "The workers take, steal and run tasks in an order that is drawn from the seed, one event after the other. The outcome
-is that of `afx run`; the trace is one that `afx run` could have written, the same on every machine.
+is that of `afx run`. The trace is one of the program, and the same on every machine.
 
 Example: afx walk examples/two_arrays.afx --workers 2 --seed 7 --trace two_arrays.trace";
 
