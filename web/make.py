@@ -189,17 +189,24 @@ def read(*path):
 
 
 def examples():
-    """The examples that stand alone, and the programs of the cookbook that only it has."""
-    found = {}
-    folder = os.path.join(TOP, "examples")
-    for name in sorted(os.listdir(folder)):
-        if name.endswith(".afx") and os.path.getsize(os.path.join(folder, name)) < 4000:
-            found[name[:-4]] = read(folder, name)
-    inputs = {}
-    for name in found:
-        if os.path.exists(os.path.join(folder, name + ".json")):
-            inputs[name] = read(folder, name + ".json")
-    return found, inputs
+    """The programs of examples/ with their inputs, in the groups of the cookbook."""
+    programs, inputs = {}, {}
+    for folder in ("examples", os.path.join("examples", "refused")):
+        for file in sorted(os.listdir(os.path.join(TOP, folder))):
+            name, kind = os.path.splitext(file)
+            if kind == ".afx":
+                programs[name] = read(TOP, folder, file)
+            elif kind == ".json":
+                inputs[name] = read(TOP, folder, file)
+    patterns, kernels, refused = read(TOP, "docs", "COOKBOOK.md").split("\n## ")[1:4]
+    groups = [["First", ["race", "two_arrays", "nested_tasks", "doubling"]],
+              ["Patterns", re.findall(r"^### .*: `(\w+)`$", patterns, re.M)],
+              ["Kernels", re.findall(r"`(\w+)`", "".join(re.findall(r"^\| (`.*?) \|", kernels, re.M)))],
+              ["Refused", re.findall(r"^\| `(\w+)` \|", refused, re.M)]]
+    groups = [[title, [name for name in names if name in programs]] for title, names in groups]
+    grouped = {name for _, names in groups for name in names}
+    groups.append(["Others", [name for name in programs if name not in grouped]])
+    return {"programs": programs, "inputs": inputs, "groups": groups}
 
 
 def commit():
@@ -211,14 +218,12 @@ def commit():
 def write_page(wasm, page):
     with open(wasm, "rb") as file:
         packed = base64.b64encode(gzip.compress(file.read(), 9, mtime=0)).decode()
-    programs, inputs = examples()
     worker = read(HERE, "host.js") + read(HERE, "work.js")
     parts = {
         "/*STYLE*/": read(HERE, "page.css"),
         "/*WORKER*/": worker.replace("</", "<\\/"),
         "/*PAGE*/": read(HERE, "text.js") + read(HERE, "page.js"),
-        "/*EXAMPLES*/": json.dumps(programs).replace("<", "\\u003c"),
-        "/*INPUTS*/": json.dumps(inputs).replace("<", "\\u003c"),
+        "/*EXAMPLES*/": json.dumps(examples()).replace("<", "\\u003c"),
         "/*MODULE*/": packed,
         "@COMMIT@": commit(),
     }

@@ -2,13 +2,13 @@
 "use strict";
 
 const $ = id => document.getElementById(id);
-const EXAMPLES = JSON.parse($("examples").textContent), INPUTS = JSON.parse($("inputs").textContent);
-const STEPS = 200000;
+const { programs: EXAMPLES, inputs: INPUTS, groups: GROUPS } = JSON.parse($("examples").textContent);
 const FILE = "program.afx";
+const STEPS = 200_000, TRACED_STEPS = 5_000, LISTS = 20_000;
 
 // ---- the worker: it holds the module, and can be ended at any time
 
-let worker, kept, ids = 0, knows = {};
+let worker, kept, ids = 0;
 const waiting = new Map();
 
 function begin() {
@@ -43,7 +43,7 @@ function afx(words, more = {}) {
     setTimeout(busy, 200);
   });
 }
-const INPUT_COMMANDS = ["serial", "cost", "explore", "walk", "run", "view"];
+const INPUT_COMMANDS = ["inspect", "cost", "explore", "walk", "view"];
 
 function busy() {
   $("stop").disabled = !waiting.size;
@@ -79,6 +79,7 @@ function mark(line, kind, says, why) {
 }
 
 function edited() {
+  turn++;
   if (waiting.size) stop("the program has changed");
   marks = {};
   choices = [];
@@ -186,9 +187,9 @@ $("text").addEventListener("click", () => {
   if (number >= 0 && open.filter(task => task.line === line).length === 1) step(number);
 });
 
-// ---- the verdict
+// ---- the verdict: `inspect` says at every change whether the program is accepted, which statements it has, and what it does
 
-let accepted = false, readable = false;
+let accepted = false, readable = false, answers = {}, statements = [], took = "";
 
 function verdict(kind, sign, head, small, why = "") {
   $("verdict").className = kind;
@@ -207,34 +208,51 @@ const object = text => {
   }
 };
 
-/** The explanation after the first line of an error. */
-const explained = text => text.split("\n").slice(1).join("\n").trim();
+/** Why something is refused, and what would be right. */
+const explained = error => [error.reason ?? "", ...(error.help ?? []).map(help => `help: ${help}`)].filter(Boolean).join("\n");
+const firstLine = text => (text ?? "").split("\n")[0];
 
 async function look() {
-  const now = ++turn;
-  const found = await afx(["check", "--format", "json", "--explain", FILE]);
+  const now = ++turn, run = await afx(["inspect", "--steps", String(STEPS), FILE]);
   if (now !== turn) return;
-  const answer = object(found.out), why = explained(found.err), ms = found.ms.toFixed(1);
+  answers = object(run.out);
+  statements = [];
+  for (const one of answers.list?.statements ?? []) statements[one.label] = one;
+  took = `${run.ms.toFixed(1)} ms, ${run.mb.toFixed(0)} MB`;
   marks = {};
-  accepted = found.status === 0;
-  readable = accepted || Boolean(answer.race);
-  if (accepted) {
-    const { procedures, labels } = answer;
-    verdict("good", "✓", "No race", `every schedule comes to one answer: ${many(labels, "statement")}, ${many(procedures, "procedure")}, checked in ${ms} ms`);
-  } else if (answer.race) {
-    markRace(answer.race);
-    const { first, second } = answer.race;
-    const lines = first.line === second.line ? `line ${first.line} may run at the same time as itself` : `lines ${first.line} and ${second.line} may run at the same time`;
-    verdict("bad", "!", `A race in ${answer.race.procedure}`, `${lines}, and share places`, why.split("\n").slice(1).join("\n"));
-    offerFinish(answer.race, now);
-  } else {
-    const head = why.split("\n")[0].replace(/^[^ ]+:\d+:\d+: /, "") || answer.message || found.err;
-    mark(answer.line, "wrong", answer.code ?? "", head);
-    verdict("bad", "!", head, answer.line ? `line ${answer.line}, column ${answer.column}` : "", why.split("\n").slice(1).join("\n"));
-    offerInsert(answer, why, now);
-  }
+  judge(answers.check ?? { message: run.err || "no answer" }, now);
   paint();
   show();
+}
+
+function judge(check, now) {
+  accepted = Boolean(check.accepted);
+  readable = accepted || Boolean(check.race);
+  if (accepted) {
+    verdict("good", "✓", "No race", `every schedule gives one answer: ${many(check.labels, "statement")}, ${many(check.procedures, "procedure")}`);
+    warn(now);
+  } else if (check.race) {
+    markRace(check.race);
+    const { first, second, procedure } = check.race;
+    const lines = first.line === second.line ? `line ${first.line} may run at the same time as itself` : `lines ${first.line} and ${second.line} may run at the same time`;
+    verdict("bad", "!", `A race in ${procedure}`, `${lines}, and share elements`, explained(check));
+    offerFinish(check.race, now);
+  } else {
+    const why = firstLine(check.reason);
+    mark(check.line, "wrong", check.code ?? "", explained(check));
+    verdict("bad", "!", why || check.message, [check.message, check.line ? `line ${check.line}, column ${check.column}` : ""].filter(Boolean).join(", "),
+      explained({ ...check, reason: (check.reason ?? "").split("\n").slice(1).join("\n") }));
+    for (const help of check.help ?? []) offerInsert(check, help, now);
+  }
+}
+
+/** Warnings about an accepted program, and marks at their lines. */
+async function warn(now) {
+  const run = await afx(["check", "--warn=always", FILE]);
+  if (now !== turn || !run.err.trim()) return;
+  for (const [, line, text] of run.err.matchAll(/^[^\s:]+:(\d+):\d+: warning: (.*)$/gm)) mark(+line, "warned", text, text);
+  $("why").textContent = run.err.trim();
+  paint();
 }
 
 function markRace(race) {
@@ -246,7 +264,10 @@ function markRace(race) {
   mark(second.line, "second", says(second), `${says(second)}; line ${first.line} ${says(first)}, and may run at the same time`);
   for (const way of [witness?.first ?? [], witness?.second ?? []]) {
     for (const one of way.slice(0, -1)) {
-      const word = { async: "starts a task", call: `calls ${one.calls}`, finish: "waits for its tasks", while: "comes again" }[one.kind];
+      const word = {
+        async: "starts a task", call: `calls ${one.calls}`, finish: "waits for its tasks", while: "comes again", parts: "has a turn for each piece",
+        rescue: "goes on after faults", split: `names ${one.section}`,
+      }[one.kind];
       mark(one.line, "way", word ?? "", `on the way to an access: ${word ?? one.kind}`);
     }
   }
@@ -265,26 +286,27 @@ async function tryFix(name, text, helps, now) {
   const laid = await afx(["fmt", FILE], { [FILE]: text });
   const fixed = laid.status === 0 ? laid.out : text;
   const found = await afx(["check", "--format", "json", FILE], { [FILE]: fixed });
-  if (now === turn && helps(found, object(found.out))) offer(name, fixed);
+  if (now === turn && helps(object(found.out))) offer(name, fixed);
 }
 
+/** The first statement of the way to the access that still has to be done, inside a finish. */
 function offerFinish(race, now) {
   const way = race.witness?.pending === "second" ? race.witness?.second : race.witness?.first;
   const start = way?.[0];
   if (!start?.line) return;
   const text = program(), from = offsetOf(text, start.line, start.column), to = endOf(text, from);
   const fixed = `${text.slice(0, from)}finish { ${text.slice(from, to)} }${text.slice(to)}`;
-  const other = (_, answer) => answer.accepted || (answer.race && answer.race.first.line !== race.first.line);
-  tryFix(`Put line ${start.line} into a finish`, fixed, other, now);
+  tryFix(`Put line ${start.line} into a finish`, fixed, next => next.accepted || (next.race && next.race.first.line !== race.first.line), now);
 }
 
-function offerInsert(answer, why, now) {
-  const word = /^help: add `([^`]+)` before this\.$/m.exec(why)?.[1];
-  if (!word || !answer.line) return;
-  const text = program(), at = offsetOf(text, answer.line, answer.column), before = text.slice(0, at).trimEnd().length;
+/** A sign or a word that is missing. */
+function offerInsert(error, help, now) {
+  const word = /^add `([^`]+)` before this\.$/.exec(help)?.[1];
+  if (!word || !error.line) return;
+  const text = program(), at = offsetOf(text, error.line, error.column), before = text.slice(0, at).trimEnd().length;
   const fixed = `${text.slice(0, before)}${word}${text.slice(before)}`;
-  const further = (_, next) => next.accepted || next.race || next.line > answer.line
-    || (next.line === answer.line && next.column > answer.column + word.length);
+  const further = next => next.accepted || next.race || next.line > error.line
+    || (next.line === error.line && next.column > error.column + word.length);
   tryFix(`Add ${word}`, fixed, further, now);
 }
 
@@ -295,7 +317,9 @@ let tab = "answer", choices = [], open = [], ends = new Map();
 
 function drawTabs() {
   $("tabs").innerHTML = TABS.map(([name, title], i) =>
-    `<button role="tab" data-tab="${name}" aria-selected="${name === tab}" title="Alt+${i + 1}">${title}</button>`).join("");
+    `<button role="tab" id="tab-${name}" data-tab="${name}" aria-controls="pane" aria-selected="${name === tab}" tabindex="${name === tab ? 0 : -1}"`
+    + ` title="Alt+${i + 1}">${title}</button>`).join("");
+  $("pane").setAttribute("aria-labelledby", `tab-${tab}`);
 }
 
 function select(name) {
@@ -310,57 +334,65 @@ const pane = html => {
   $("pane").className = "";
   $("pane").innerHTML = html;
 };
-const many = (count, word) => `${count} ${word}${count === 1 ? "" : "s"}`;
+const many = (count, word) => `${count.toLocaleString("en")} ${word}${count === 1 ? "" : "s"}`;
 const note = text => `<p class="note">${text}</p>`;
 const current = (now, name) => now === turn && tab === name;
 
 async function show() {
   const now = turn;
-  if (!readable && ["schedules", "trace"].includes(tab)) return pane(note("First mend what is said above."));
+  if (!statements.length || (!readable && tab !== "answer" && tab !== "pairs")) {
+    return pane(tab === "answer" ? "" : note("First fix what is reported above."));
+  }
   await { answer: showAnswer, cost: showCost, pairs: showPairs, schedules: showSchedules, trace: showTrace }[tab](now);
 }
 
-async function showAnswer(now) {
-  const run = await afx(["serial", "--arrays", "--explain", "--steps", String(STEPS), FILE]);
-  if (!current(now, "answer")) return;
-  const said = run.status === 1 ? "" : `${escaped(run.out) || "<i>nothing is printed</i>"}`;
-  pane(`<pre>${said}${run.err ? `\n${escaped(run.err)}` : ""}</pre>`
-    + note(`On one thread, each async where it stands: status ${run.status}, ${run.ms.toFixed(1)} ms, ${run.mb.toFixed(0)} MB. `
-    + (accepted ? "Every schedule of tasks gives the same: that is proved." : readable ? "Other schedules may give another answer: see “Schedules”." : "")));
+/** An error in one line, with what its explanation says. */
+const failed = error => `<pre>${escaped(error.message ?? "")}\n${escaped(explained(error))}</pre>`;
+
+/** An outcome: its lines, its faults, its arrays. */
+function ending(outcome) {
+  if (outcome.stopped) return `<pre>stopped</pre>${note(`A task has more than ${STEPS.toLocaleString("en")} steps, or asyncs are nested too deep.`)}`;
+  const lines = (outcome.lines ?? []).map(line => line.join(" ")).join("\n");
+  const faults = (outcome.faults ?? []).map(one =>
+    `\nfault ${one.path} at line ${one.line}: ${one.kind}${one.number === null ? "" : ` ${one.number}`}`).join("");
+  const arrays = Object.entries(outcome.arrays ?? {}).map(([name, numbers]) =>
+    `\n${escaped(name)}: ${numbers.slice(0, 32).join(" ")}${numbers.length > 32 ? ` .. (${many(numbers.length, "element")})` : ""}`).join("");
+  return `<pre>${escaped(lines) || "<i>nothing is printed</i>"}${escaped(faults)}</pre>${arrays ? `<pre class="arrays">${arrays.trim()}</pre>` : ""}`;
 }
 
-/** The statements by their labels: line and column. */
-async function places() {
-  const list = await afx(["list", "--lines", FILE]), at = {};
-  for (const line of list.out.split("\n")) {
-    const found = /^ *(\d+):(\d+) +(\d+) /.exec(line);
-    if (found) at[found[3]] = { line: +found[1], column: +found[2] };
-  }
-  return at;
+function showAnswer() {
+  const outcome = answers.serial ?? {};
+  if (!readable) return pane("");
+  pane((outcome.message ? failed(outcome) : ending(outcome))
+    + note(`On one thread: each async runs in place. ${took}. `
+    + (accepted ? "Every schedule gives the same answer: that is proved." : "Other schedules may give another answer: see “Schedules”.")));
 }
 
-const where = (at, label) => (at[label] ? `${at[label].line}: ${headOf(program(), at[label].line, at[label].column).slice(0, 44)}` : label);
+const where = label => {
+  const one = statements[label];
+  return one ? `${one.line}: ${one.text.slice(0, 50)}` : `label ${label}`;
+};
 
 async function showCost(now) {
-  const run = await afx(["cost", "--by-line", "--steps", String(STEPS), FILE]), at = await places();
+  const run = await afx(["cost", "--by-line", "--format", "json", "--steps", String(STEPS), FILE]), cost = object(run.out);
   if (!current(now, "cost")) return;
-  const rows = [...run.out.matchAll(/^(?:.*)label (\d+)\b.*?work (\d+), span (\d+)/gm)].map(row => row.slice(1, 4).map(Number))
-    .sort((a, b) => b[1] - a[1]);
-  const most = rows[0]?.[1] || 1;
-  pane(`<pre>${escaped(run.out.split("\n").filter(line => !/label \d+/.test(line)).join("\n"))}${escaped(run.err)}</pre>`
-    + (rows.length ? note("Steps by statement; the longest bars decide the work.") : "")
-    + `<div class="bars">${rows.slice(0, 16).map(([label, work]) => `<code>${escaped(where(at, label))}</code>`
-      + `<span class="bar" style="width:${Math.max(0.5, 100 * work / most)}%"></span><span>${work.toLocaleString("en")}</span>`).join("")}</div>`);
+  if (cost.work === undefined) return pane(cost.message ? failed(cost) : ending(cost) + note("Only a run that ends without faults has a cost."));
+  const rows = [...cost.statements].sort((a, b) => b.work - a.work).filter(row => row.work), most = rows[0]?.work || 1;
+  pane(`<p><b>${many(cost.work, "step")}</b> of ${many(cost.tasks, "task")}; the longest chain has <b>${cost.span.toLocaleString("en")}</b>. So no number of`
+    + ` workers is more than <b>${(cost.work / Math.max(1, cost.span)).toFixed(2)}</b> times as fast.</p>`
+    + note("Steps by statement, and in brackets those on the longest chain:")
+    + `<div class="bars">${rows.slice(0, 20).map(row => `<code>${escaped(where(row.label))}</code>`
+      + `<span class="bar" style="width:${Math.max(0.5, 100 * row.work / most)}%"></span><span>${row.work.toLocaleString("en")} (${row.span.toLocaleString("en")})</span>`).join("")}</div>`);
 }
 
 async function showPairs(now) {
-  const run = await afx(["mhp", FILE]), at = await places();
+  const run = await afx(["mhp", "--format", "json", FILE]), { pairs, ...error } = object(run.out);
   if (!current(now, "pairs")) return;
-  const pairs = [...run.out.matchAll(/^(\d+) (\d+)/gm)].map(pair => pair.slice(1, 3));
-  pane((run.status ? `<pre>${escaped(run.err)}</pre>` : "")
-    + note(pairs.length ? "These statements may run at the same time. Choose a pair to see it." : "No two statements may run at the same time.")
-    + pairs.slice(0, 200).map(([one, other]) => `<div class="row"><button data-lines="${at[one]?.line},${at[other]?.line}">`
-      + `<code>${escaped(where(at, one))}</code> with <code>${escaped(where(at, other))}</code></button></div>`).join(""));
+  if (!pairs) return pane(failed(error));
+  pane(note(pairs.length ? `${many(pairs.length, "pair")} of statements may run at the same time. Choose one to see it.` : "No two statements may run at the same time.")
+    + pairs.slice(0, 200).map(([one, other]) => `<div class="row"><button data-lines="${statements[one]?.line},${statements[other]?.line}">`
+      + `<code>${escaped(where(one))}</code> with <code>${escaped(where(other))}</code></button></div>`).join("")
+    + (pairs.length > 200 ? note("The others are left out.") : ""));
 }
 
 // schedules, step by step
@@ -368,42 +400,46 @@ async function showPairs(now) {
 const explore = list => afx(["explore", "--format", "json", "--choices", list.map(choice => choice.number).join(","), FILE]);
 
 async function showSchedules(now) {
-  if (!knows.standing) return pane(note("This program is too old to tell which tasks may step."));
   const run = await explore(choices), answer = object(run.out);
   if (!current(now, "schedules")) return;
   open = answer.open ?? [];
-  for (const line in marks) if (marks[line].kind === "next") delete marks[line];
-  for (const task of open) {
-    const before = marks[task.line];
-    marks[task.line] = { kind: "next", says: `${before?.kind === "next" ? `${before.says}, ` : "next: "}${task.path}`, why: "click: this task takes the next step" };
-  }
-  paint();
-  if (!answer.open && run.status !== 1) ends.set(JSON.stringify(answer), { answer, choices: [...choices] });
-  const head = run.status === 1 ? `<pre>${escaped(run.err)}</pre>`
-    : answer.open ? `<p>After ${many(choices.length, "step")} <b>${many(open.length, "task")}</b> may take the next one. Choose it here, or click its line.</p>`
+  markNext();
+  if (!answer.open && !answer.message) ends.set(JSON.stringify(answer), { answer, choices: [...choices] });
+  const head = answer.message ? failed(answer)
+    : answer.open ? `<p>After ${many(choices.length, "step")}, <b>${many(open.length, "task")}</b> may take the next one. Choose it here, or click its line.</p>`
       : `<p>The run has ended after ${many(choices.length, "step")}:</p>${ending(answer)}`;
-  pane(head
-    + `<div class="tasks">${open.slice(0, 60).map((task, i) => `<button data-step="${i}"><span class="path">${task.path}</span>`
-      + `<span>line ${task.line}</span><code>${escaped(headOf(program(), task.line, task.column))}</code></button>`).join("")}</div>`
+  pane(head + nextTasks()
     + `<div class="row"><button data-do="back"${choices.length ? "" : " disabled"}>One back</button>`
     + `<button data-do="again"${choices.length ? "" : " disabled"}>From the start</button>`
     + `<button data-do="on"${open.length ? "" : " disabled"}>On at random</button><button data-do="all">Look for all ends</button></div>`
     + foundEnds()
-    + (choices.length ? `<ol class="steps">${choices.map(choice => `<li>${choice.path}: line ${choice.line} ${escaped(choice.head)}</li>`).join("")}</ol>` : ""));
+    + (choices.length ? `<ol class="steps">${choices.map(choice => `<li>${choice.path}: ${escaped(where(choice.label))}</li>`).join("")}</ol>` : ""));
 }
 
-const ending = answer => `<pre>${escaped((answer.lines ?? []).map(line => line.join(" ")).join("\n")) || "<i>nothing is printed</i>"}`
-  + `${answer.faults?.length ? `\n${answer.faults.map(fault => `fault ${fault.path} at line ${fault.line}: ${fault.kind}`).join("\n")}` : ""}\n`
-  + `${Object.entries(answer.arrays ?? {}).map(([name, numbers]) => `${name}: ${numbers.slice(0, 32).join(" ")}${numbers.length > 32 ? " .." : ""}`).join("\n")}</pre>`;
+function nextTasks() {
+  return `<div class="tasks">${open.slice(0, 60).map((task, i) => `<button data-step="${i}"><span class="path">${task.path}</span>`
+    + `<span>line ${task.line}</span><code>${escaped(statements[task.label]?.text ?? "")}</code></button>`).join("")}</div>`
+    + (open.length > 60 ? note("The others are left out.") : "");
+}
 
-function foundEnds(all = "") {
+/** Marks the lines whose statements may go next. */
+function markNext() {
+  for (const line in marks) if (marks[line].kind === "next") delete marks[line];
+  for (const task of open) {
+    const before = marks[task.line]?.kind === "next" ? `${marks[task.line].says}, ` : "next: ";
+    marks[task.line] = { kind: "next", says: `${before}${task.path}`, why: "click: this task takes the next step" };
+  }
+  paint();
+}
+
+function foundEnds() {
   if (!ends.size) return "";
   const told = ends.size === 1 ? "One end was found" : `${ends.size} different ends were found`;
-  return note(`${told}${all}.${accepted ? " There is no other: that is proved." : ""}`)
+  return note(`${told}.${accepted ? " There is no other: that is proved." : ""}`)
     + `<div class="ends">${[...ends.values()].map((end, i) => `<div>${ending(end.answer)}<button data-end="${i}">Show how</button></div>`).join("")}</div>`;
 }
 
-const chosenTask = (task, number) => ({ number, path: task.path, line: task.line, head: headOf(program(), task.line, task.column) });
+const chosenTask = (task, number) => ({ number, path: task.path, label: task.label });
 
 function step(number) {
   choices.push(chosenTask(open[number], number));
@@ -418,17 +454,20 @@ async function onAtRandom() {
     const number = Math.floor(Math.random() * answer.open.length);
     choices.push(chosenTask(answer.open[number], number));
   }
-  show();
+  if (current(now, "schedules")) show();
 }
 
 /** Asks for the ends of all schedules. */
 async function allEnds() {
-  const now = turn, run = await afx(["explore", "--all", "20000", FILE]), answer = object(run.out);
+  const now = turn;
+  $("state").textContent = "looking for all ends";
+  const answer = object((await afx(["explore", "--all", String(LISTS), FILE])).out);
+  $("state").textContent = "";
   if (!current(now, "schedules") || !answer.ends) return;
   ends = new Map();
   for (const end of answer.ends) ends.set(JSON.stringify(end.outcome), { answer: end.outcome, numbers: end.choices });
   $("state").textContent = answer.all ? `all schedules were tried: ${many(answer.tried, "list")} of choices`
-    : `${many(answer.tried, "list")} of choices, not all schedules`;
+    : `not all schedules: ${many(answer.tried, "list")} of choices`;
   show();
 }
 
@@ -448,42 +487,40 @@ async function showHow(end) {
 
 // a trace
 
-let workers = 3, seed = 1;
+let workers = 3, seed = 1, shownPage = "";
+
+const controls = () => `<div class="row"><label>Workers <input id="workers" type="number" min="1" max="64" value="${workers}"></label>`
+  + `<label>Seed <input id="seed" type="number" min="0" value="${seed}"></label><button data-do="another">Another schedule</button></div>`;
 
 async function showTrace(now) {
-  const record = knows.walk ? ["walk", "--workers", String(workers), "--seed", String(seed)] : ["run", "--workers", "1"];
-  const run = await afx([...record, "--steps", "5000", "--trace", "program.trace", FILE]);
+  if (!accepted) return pane(note("Only a program without a race is run on several workers."));
+  const run = await afx(["walk", "--workers", String(workers), "--seed", String(seed), "--steps", String(TRACED_STEPS), "--trace", "program.trace", FILE]);
   if (!current(now, "trace")) return;
-  const controls = knows.walk
-    ? `<div class="row"><label>Workers <input id="workers" type="number" min="1" max="64" value="${workers}"></label>`
-      + `<label>Schedule <input id="seed" type="number" min="0" value="${seed}"></label><button data-do="another">Another schedule</button></div>`
-    : note("One worker: this program is too old to draw schedules.");
   const trace = run.files["program.trace"];
-  if (!trace) return pane(controls + `<pre>${escaped(run.err)}</pre>`);
-  const files = { "program.trace": trace };
-  if (knows.html) {
-    const view = await afx(["view", FILE, "program.trace", "--html", "trace.html"], files);
-    if (!current(now, "trace")) return;
-    if (view.files["trace.html"]) {
-      pane(controls);
-      $("pane").className = "framed";
-      const frame = document.createElement("iframe");
-      frame.title = "The trace of a run";
-      frame.srcdoc = view.files["trace.html"];
-      return $("pane").append(frame);
-    }
-  }
-  const drawn = await afx(["view", FILE, "program.trace", "--svg", "trace.svg"], files);
-  const [table, numbers] = [await afx(["view", FILE, "program.trace"], files), await afx(["view", FILE, "program.trace", "--summary"], files)];
+  if (!trace) return pane(`${controls()}<pre>${escaped(run.err)}</pre>`);
+  const view = await afx(["view", FILE, "program.trace", "--html", "trace.html"], { "program.trace": trace });
   if (!current(now, "trace")) return;
-  const svg = drawn.files["trace.svg"];
-  pane(controls + (svg ? `<img alt="Which worker did what, over the events" src="data:image/svg+xml,${encodeURIComponent(svg)}">` : "")
-    + `<pre>${escaped(numbers.out)}</pre><pre>${escaped(table.out || table.err)}</pre>`);
+  const page = view.files["trace.html"];
+  if (!page) return pane(`${controls()}<pre>${escaped(view.err)}</pre>`);
+  pane(controls() + (run.status === 3 ? note(`Stopped: here a task may take ${TRACED_STEPS.toLocaleString("en")} steps.`) : ""));
+  $("pane").className = "framed";
+  const frame = document.createElement("iframe");
+  frame.title = "The trace of a run";
+  URL.revokeObjectURL(shownPage);
+  shownPage = URL.createObjectURL(new Blob([page], { type: "text/html" }));
+  frame.src = shownPage;
+  $("pane").append(frame);
 }
 
 // ---- what can be pressed
 
 $("tabs").addEventListener("click", event => event.target.dataset.tab && select(event.target.dataset.tab));
+$("tabs").addEventListener("keydown", event => {
+  const by = { ArrowLeft: -1, ArrowRight: 1 }[event.key];
+  if (!by) return;
+  select(TABS[(TABS.findIndex(([name]) => name === tab) + by + TABS.length) % TABS.length][0]);
+  $(`tab-${tab}`).focus();
+});
 $("pane").addEventListener("click", event => {
   const data = event.target.closest("button")?.dataset ?? {};
   if (data.step) step(+data.step);
@@ -529,9 +566,15 @@ async function format() {
 }
 
 function load(name) {
-  $("input").value = INPUTS[name] ?? "";
-  $("given").open = Boolean(INPUTS[name]);
-  $("text").value = EXAMPLES[name];
+  $("example").value = name;
+  setAll(EXAMPLES[name], INPUTS[name] ?? "");
+}
+
+/** Another program, and its input. */
+function setAll(text, input) {
+  $("input").value = input;
+  $("given").open = Boolean(input);
+  $("text").value = text;
   $("text").setSelectionRange(0, 0);
   edited();
   words = [];
@@ -546,31 +589,35 @@ async function through(stream, bytes) {
 
 async function share() {
   const packed = await through(new CompressionStream("deflate-raw"), new TextEncoder().encode(JSON.stringify([program(), $("input").value])));
-  location.hash = `p=${btoa(String.fromCharCode(...packed)).replaceAll("+", "-").replaceAll("/", "_").replaceAll("=", "")}`;
+  const letters = Array.from(packed, byte => String.fromCharCode(byte)).join("");
+  location.hash = link = `#p=${btoa(letters).replaceAll("+", "-").replaceAll("/", "_").replaceAll("=", "")}`;
   try {
     await navigator.clipboard.writeText(location.href);
     $("state").textContent = "the link is copied";
   } catch {
-    $("state").textContent = "the link stands in the address bar";
+    $("state").textContent = "the link is in the address bar";
   }
 }
+
+// A link that was opened in this tab, and not made here.
+let link = "";
+addEventListener("hashchange", () => location.hash !== link && shared());
 
 async function shared() {
   const hash = new URLSearchParams(location.hash.slice(1));
   if (TABS.some(([name]) => name === hash.get("tab"))) tab = hash.get("tab");
   drawTabs();
   if (hash.has("dark")) theme(true);
-  if (!hash.has("p")) {
-    $("example").value = hash.get("example") in EXAMPLES ? hash.get("example") : "race";
-    return load($("example").value);
+  if (!hash.has("p")) return load(hash.get("example") in EXAMPLES ? hash.get("example") : "race");
+  try {
+    const letters = atob(hash.get("p").replaceAll("-", "+").replaceAll("_", "/"));
+    const plain = await through(new DecompressionStream("deflate-raw"), Uint8Array.from(letters, letter => letter.charCodeAt(0)));
+    const [text, input] = JSON.parse(new TextDecoder().decode(plain));
+    setAll(text, input);
+  } catch {
+    load("race");
+    $("state").textContent = "the link has no program";
   }
-  const letters = atob(hash.get("p").replaceAll("-", "+").replaceAll("_", "/"));
-  const plain = await through(new DecompressionStream("deflate-raw"), Uint8Array.from(letters, letter => letter.charCodeAt(0)));
-  const [text, input] = JSON.parse(new TextDecoder().decode(plain));
-  $("text").value = text;
-  $("input").value = input;
-  $("given").open = Boolean(input);
-  edited();
 }
 
 // ---- the start
@@ -584,16 +631,16 @@ async function start() {
   theme(matchMedia("(prefers-color-scheme: dark)").matches);
   $("theme").onclick = () => theme(document.documentElement.dataset.theme !== "dark");
   $("limit").textContent = STEPS.toLocaleString("en");
-  const titles = Object.keys(EXAMPLES), first = ["race", "two_arrays", "nested_tasks", "halves", "doubling"].filter(name => name in EXAMPLES);
-  $("example").innerHTML = [["First", first], ["More", titles.filter(name => !first.includes(name))]].map(([title, names]) =>
+  $("traced").textContent = TRACED_STEPS.toLocaleString("en");
+  $("lists").textContent = LISTS.toLocaleString("en");
+  $("example").innerHTML = GROUPS.map(([title, names]) =>
     `<optgroup label="${title}">${names.map(name => `<option>${name}</option>`).join("")}</optgroup>`).join("");
   drawTabs();
   const began = performance.now();
   try {
     const ready = await begin();
-    const [help, explored, viewed] = await Promise.all([["--help"], ["explore", "--help"], ["view", "--help"]].map(list => afx(list)));
-    knows = { walk: /^ {2}walk\b/m.test(help.out), standing: explored.out.includes("--format"), html: viewed.out.includes("--html") };
-    $("state").textContent = `${(ready.bytes / 1048576).toFixed(1)} MB of WebAssembly, ready in ${Math.round(performance.now() - began)} ms`;
+    const version = await afx(["--version"]);
+    $("state").textContent = `${version.out.trim()}: ${(ready.bytes / 1048576).toFixed(1)} MB of WebAssembly, ready in ${Math.round(performance.now() - began)} ms`;
     document.documentElement.dataset.ready = "yes";
   } catch (error) {
     return verdict("bad", "!", "This browser can’t run the program", `${error}. It needs memories of 64 bits in WebAssembly: Chrome 133, Firefox 134 or later.`);

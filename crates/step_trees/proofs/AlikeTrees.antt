@@ -75,7 +75,7 @@ alike-faults : {t u : Tree} → AreAlike t u → faults_of t ≡ faults_of u
 alike-faults = alike-told faults_of (λ t u. refl) (λ t x k. refl)
 
 pub alike-candidates : {t u : Tree} → AreAlike t u → candidates t ≡ candidates u
-alike-candidates = alike-told candidates (λ t u. refl) (λ t k. refl)
+alike-candidates = alike-told candidates (λ t u. refl) (λ t x k. refl)
 
 alike-owner : {t u : Tree} → AreAlike t u → rightmost t ≡ rightmost u
 alike-owner AreAlike.same = refl

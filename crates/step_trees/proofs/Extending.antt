@@ -20,7 +20,7 @@ count_leaf (Then l s rest) k = refl
 
 pub candidates-count : (t : Tree) → length (candidates t) ≡ ready t
 candidates-count (Single k) = count_leaf k.rest k
-candidates-count (AndThen t k) = candidates-count t
+candidates-count (AndThen t h k) = candidates-count t
 candidates-count (Beside t u) =
     let left = candidates-count t in let right = candidates-count u in let all = length-append (candidates t) (candidates u) in
     omega (arith, left, right, all)

@@ -75,10 +75,10 @@ pub candidates-beside : (bs : List (Box rTree Global)) (t u : Tree)
 candidates-beside = told-beside candidates (λ t u. refl)
 
 -- the body of a finish has the tasks of the whole
-pub candidates-first : (bs : List (Box rTree Global)) (t : Tree) (k : Leaf)
-    → candidates (with_rights bs (AndThen t k)) ≡ candidates (with_rights bs t)
-candidates-first [] t k = refl
-candidates-first (x ∷ bs) t k = ap (λ l. l ++ candidates (tree_of x.value)) (candidates-first bs t k)
+pub candidates-first : (bs : List (Box rTree Global)) (t : Tree) (h : Handler) (k : Leaf)
+    → candidates (with_rights bs (AndThen t h k)) ≡ candidates (with_rights bs t)
+candidates-first [] t h k = refl
+candidates-first (x ∷ bs) t h k = ap (λ l. l ++ candidates (tree_of x.value)) (candidates-first bs t h k)
 
 pub rightmost-beside : (bs : List (Box rTree Global)) (t u : Tree)
     → rightmost (with_rights bs (Beside t u)) ≡ rightmost (with_rights bs u)

@@ -27,7 +27,7 @@ candidates_by (Then l s rest) k = record { path = k.path; label = l } ∷ []
 -- names it
 abbrev pub candidates : Tree → List Candidate
 candidates (Single k) = candidates_by k.rest k
-candidates (AndThen t k) = candidates t
+candidates (AndThen t h k) = candidates t
 candidates (Beside t u) = candidates t ++ candidates u
 
 -- where a run by given choices stands: it has ended, or these tasks may step; or no task has the choice with

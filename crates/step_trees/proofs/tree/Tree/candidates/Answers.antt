@@ -3,7 +3,7 @@ use Rattle.std.proofs.lemmas.List.{append_assoc, append-nil}
 use Rattle.types.specs.Trees.{AndThen, Beside, Single}
 use Rattle.step_trees.specs.Held.{tree_of}
 use Rattle.step_trees.specs.Standing.{candidate_of, candidates, listed}
-use Rattle.step_trees.specs.Translation.{leaf_of}
+use Rattle.step_trees.specs.Translation.{leaf_of, handler_of}
 use Rattle.step_trees.proofs.HeldTrees.{weight, weights, weights-push, with_rights, with_rights-push, candidates-beside, candidates-first}
 use Rattle.step_trees.proofs.tree.Tree.candidates.Goals as goal
 
@@ -45,7 +45,7 @@ leaves-preserved-in-AndThen c =
     let same : candidates (with_rights rights (tree_of c.into_inner-self-in-AndThen.result))
     ≡ candidates (with_rights rights (tree_of c.leaves.self))
     = ap (λ t. candidates (with_rights rights (tree_of t))) c.into_inner-self-in-AndThen.ensures
-    ∙ sym (candidates-first rights first (leaf_of c.in-AndThen.behind))
+    ∙ sym (candidates-first rights first (handler_of c.in-AndThen.behind.handler) (leaf_of c.in-AndThen.behind.leaf))
     ∙ sym (ap (λ t. candidates (with_rights rights (tree_of t))) c.in-AndThen.is) in
     ap (λ l. map candidate_of c.leaves.found.items ++ l) same ∙ c.leaves.invariant
 
