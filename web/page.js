@@ -489,8 +489,8 @@ async function showHow(end) {
 
 let workers = 3, seed = 1, shownPage = "";
 
-const controls = () => `<div class="row"><label>Workers <input id="workers" type="number" min="1" max="64" value="${workers}"></label>`
-  + `<label>Seed <input id="seed" type="number" min="0" value="${seed}"></label><button data-do="another">Another schedule</button></div>`;
+const controls = (more = "") => `<div class="row"><label>Workers <input id="workers" type="number" min="1" max="64" value="${workers}"></label>`
+  + `<label>Seed <input id="seed" type="number" min="0" value="${seed}"></label><button data-do="another">Another schedule</button>${more}</div>`;
 
 async function showTrace(now) {
   if (!accepted) return pane(note("Only a program without a race is run on several workers."));
@@ -502,12 +502,12 @@ async function showTrace(now) {
   if (!current(now, "trace")) return;
   const page = view.files["trace.html"];
   if (!page) return pane(`${controls()}<pre>${escaped(view.err)}</pre>`);
-  pane(controls() + (run.status === 3 ? note(`Stopped: here a task may take ${TRACED_STEPS.toLocaleString("en")} steps.`) : ""));
+  URL.revokeObjectURL(shownPage);
+  shownPage = URL.createObjectURL(new Blob([page], { type: "text/html" }));
+  pane(controls(`<a href="${shownPage}" target="_blank">Open it in a tab of its own</a>`) + (run.status === 3 ? note(`Stopped: here a task may take ${TRACED_STEPS.toLocaleString("en")} steps.`) : ""));
   $("pane").className = "framed";
   const frame = document.createElement("iframe");
   frame.title = "The trace of a run";
-  URL.revokeObjectURL(shownPage);
-  shownPage = URL.createObjectURL(new Blob([page], { type: "text/html" }));
   frame.src = shownPage;
   $("pane").append(frame);
 }

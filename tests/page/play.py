@@ -1,9 +1,9 @@
 #!/usr/bin/env python3
 """Runs programs in the page of web/ and with `afx`, compares what they tell, and uses the page. tests/web.sh runs it.
 
-    play.py PAGE [--pictures FOLDER]
+    play.py PAGE [--pictures FOLDER] [NAME..]
 
-AFX names the program. With NATIVE=1 each command of the page is a run of AFX: then only the page's own code is tested.
+NAME is one of the tests: race, ends, answers, traced, typed, shared, stopped, looks, compared. AFX names the program. With NATIVE=1 each command of the page is a run of AFX: then only the page's own code is tested.
 Prints each wrong answer; the last line is `N passed, M failed`.
 """
 import json
@@ -105,6 +105,26 @@ def opened(browser, page, link):
     holds(f"the page is ready at {link}", until(browser, 'document.documentElement.dataset.ready === "yes"'), browser.text("#verdict"))
 
 
+def in_frame(browser, text):
+    """The value of an expression in the frame of the page, which the browser may run apart."""
+    browser.frames()
+    own = browser.session
+    tree = browser.ask("Page.getFrameTree")["frameTree"]
+    if "childFrames" in tree:
+        world = browser.ask("Page.createIsolatedWorld", frameId=tree["childFrames"][0]["frame"]["id"])["executionContextId"]
+        got = browser.ask("Runtime.evaluate", contextId=world, returnByValue=True, awaitPromise=True, expression=text)
+        return got["result"].get("value")
+    try:
+        browser.session = None
+        frames = [one for one in browser.ask("Target.getTargets")["targetInfos"] if one["type"] == "iframe"]
+        if not frames:
+            return None
+        browser.session = browser.ask("Target.attachToTarget", targetId=frames[0]["targetId"], flatten=True)["sessionId"]
+        return browser.run(text)
+    finally:
+        browser.session = own
+
+
 def judged(browser):
     """Waits for the verdict about the text that is there, and returns its words."""
     until(browser, 'waiting.size === 0 && $("verdict").className !== ""')
@@ -114,7 +134,11 @@ def judged(browser):
 
 # ---- the same answers
 
-def compare(browser):
+def compared(browser, page):
+    if NATIVE:
+        return
+    opened(browser, page, "#example=two_arrays")
+    judged(browser)
     programs = browser.run("({ programs: EXAMPLES, inputs: INPUTS })")
     count = 0
     for name, text in programs["programs"].items():
@@ -141,7 +165,7 @@ def compare(browser):
 
 # ---- the page
 
-def race_and_fix(browser, page):
+def race(browser, page):
     opened(browser, page, "#example=race")
     same("the verdict of a race", judged(browser), "A race in main")
     same("both accesses are marked", browser.texts("#shown .first, #shown .second"), ["    a[0] = 7;", "  print a[0];"])
@@ -153,9 +177,7 @@ def race_and_fix(browser, page):
     browser.mouse("mouseMoved", left + 40, top + height / 2)
     browser.frames()
     holds("the reason at the pointer", "may run at the same time" in browser.text("#tip"), browser.text("#tip"))
-
-
-def fixed(browser):
+    # the fix
     browser.press("#fixes button")
     until(browser, '$("verdict").className === "good"')
     same("the verdict after the fix", judged(browser), "No race")
@@ -163,7 +185,7 @@ def fixed(browser):
     same("the answer after the fix", browser.text("#pane pre").split("\n")[0], "7")
 
 
-def two_ends(browser, page):
+def ends(browser, page):
     opened(browser, page, "#example=race&tab=schedules")
     judged(browser)
     holds("the first task may step", until(browser, 'document.querySelectorAll(".tasks button").length === 1'))
@@ -199,10 +221,10 @@ def traced(browser, page):
     opened(browser, page, "#example=doubling&tab=trace")
     judged(browser)
     holds("the page of a trace", until(browser, 'document.querySelector("#pane iframe")?.src.startsWith("blob:")'), browser.text("#pane"))
-    seen = browser.run("""new Promise(done => { const frame = document.querySelector("#pane iframe"), end = Date.now() + 20000;
-      const look = () => { const text = frame.contentDocument?.querySelector("#facts")?.textContent; text || Date.now() > end ? done(text ?? "") : setTimeout(look, 100); };
+    seen = in_frame(browser, """new Promise(done => { const end = Date.now() + 20000;
+      const look = () => { const text = document.querySelector("#facts")?.textContent; text || Date.now() > end ? done(text ?? "") : setTimeout(look, 100); };
       look(); })""")
-    holds("the page of the trace has opened", "workers" in seen, seen)
+    holds("the page of the trace has opened", "steals" in (seen or ""), seen)
 
 
 def typed(browser, page):
@@ -216,7 +238,7 @@ def typed(browser, page):
     browser.press("#fixes button")
     until(browser, '$("verdict").className === "good"')
     holds("the fixed text is formatted", browser.run("program()") == "main {\n  print 1;\n}\n", browser.run("program()"))
-    browser.run('$("text").setSelectionRange(9, 9)')
+    browser.run('$("text").setSelectionRange(7, 7)')
     browser.type("pr")
     holds("completions", until(browser, '!$("words").hidden') and "print" in browser.texts("#words li"), browser.texts("#words li"))
 
@@ -233,6 +255,8 @@ def shared(browser, page):
 
 
 def stopped(browser, page):
+    if NATIVE:
+        return
     opened(browser, page, "#example=two_arrays")
     judged(browser)
     browser.run('void (ended = afx(["explore", "--all", "1000000", "p.afx"], { "p.afx": EXAMPLES.doubling }))')
@@ -242,7 +266,7 @@ def stopped(browser, page):
     same("the next command runs", browser.run('afx(["--version"]).then(run => run.status)'), 0)
 
 
-def looks(browser, page, pictures):
+def looks(browser, page):
     browser.media("dark")
     opened(browser, page, "#example=race")
     judged(browser)
@@ -253,37 +277,37 @@ def looks(browser, page, pictures):
     judged(browser)
     holds("nothing is wider than a phone", browser.run("document.documentElement.scrollWidth <= innerWidth"), browser.run("document.documentElement.scrollWidth"))
     browser.size(1440, 900)
-    if pictures:
-        opened(browser, page, "#example=race")
-        judged(browser)
-        until(browser, '$("fixes").children.length')
-        browser.picture(os.path.join(pictures, "play_race.png"))
-        opened(browser, page, "#example=race&tab=schedules&dark")
-        judged(browser)
-        until(browser, 'document.querySelectorAll(".tasks button").length')
-        browser.press('[data-do="all"]')
-        until(browser, 'document.querySelectorAll(".ends > div").length === 2')
-        browser.picture(os.path.join(pictures, "play_schedules.png"))
+
+
+def photograph(browser, page, folder):
+    opened(browser, page, "#example=race")
+    judged(browser)
+    until(browser, '$("fixes").children.length')
+    browser.picture(os.path.join(folder, "play_race.png"))
+    opened(browser, page, "#example=race&tab=schedules&dark")
+    judged(browser)
+    until(browser, 'document.querySelectorAll(".tasks button").length')
+    browser.press('[data-do="all"]')
+    until(browser, 'document.querySelectorAll(".ends > div").length === 2')
+    browser.picture(os.path.join(folder, "play_schedules.png"))
+
+
+TESTS = [race, ends, answers, traced, typed, shared, stopped, looks, compared]
 
 
 def main():
-    page = sys.argv[1]
-    pictures = sys.argv[3] if sys.argv[2:3] == ["--pictures"] else None
+    page, names = sys.argv[1], sys.argv[2:]
+    pictures = names.pop(1) if names[:1] == ["--pictures"] else None
+    if pictures:
+        names.pop(0)
     browser = Bridged(1440, 900)
     try:
-        race_and_fix(browser, page)
-        fixed(browser)
-        two_ends(browser, page)
-        answers(browser, page)
-        traced(browser, page)
-        typed(browser, page)
-        shared(browser, page)
-        stopped(browser, page)
-        looks(browser, page, pictures)
-        wrong = [line for line in browser.wrong() if not line.startswith("request: blob:")]
-        same("the browser has no complaint", wrong, [])
-        if not NATIVE:
-            compare(browser)
+        for test in TESTS:
+            if not names or test.__name__ in names:
+                test(browser, page)
+                same(f"{test.__name__}: the browser has no complaint", [line for line in browser.wrong() if not line.startswith("request: blob:")], [])
+        if pictures:
+            photograph(browser, page, pictures)
     finally:
         browser.close()
     print(f"{passed} passed, {failed} failed")
