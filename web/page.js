@@ -62,13 +62,14 @@ function stop(why = "stopped by you") {
 // ---- the editor
 
 const program = () => $("text").value;
-let marks = {}, turn = 0, timer;
+// Marks of lines: what the verdict says of them, and above that what is chosen or may go next.
+let marks = {}, nexts = {}, turn = 0, timer;
 
 function paint() {
   const lines = program().split("\n");
   $("numbers").textContent = lines.map((_, i) => i + 1).join("\n");
   $("shown").innerHTML = lines.map((line, i) => {
-    const mark = marks[i + 1];
+    const mark = nexts[i + 1] ?? marks[i + 1];
     const says = mark?.says ? ` data-says="${escaped(mark.says)}"` : "";
     return `<span class="line ${mark?.kind ?? ""}"${says}>${coloured(line) || " "}</span>`;
   }).join("");
@@ -82,6 +83,7 @@ function edited() {
   turn++;
   if (waiting.size) stop("the program has changed");
   marks = {};
+  nexts = {};
   choices = [];
   ends = new Map();
   paint();
@@ -173,7 +175,7 @@ $("input").addEventListener("input", edited);
 // reasons at the pointer
 
 $("text").addEventListener("mousemove", event => {
-  const line = Math.floor((event.clientY - $("text").getBoundingClientRect().top - 10) / 21) + 1, told = marks[line]?.why;
+  const line = Math.floor((event.clientY - $("text").getBoundingClientRect().top - 10) / 21) + 1, told = (nexts[line] ?? marks[line])?.why;
   $("tip").hidden = !told;
   if (!told) return;
   $("tip").textContent = told;
@@ -324,8 +326,8 @@ function drawTabs() {
 
 function select(name) {
   tab = name;
+  nexts = {};
   drawTabs();
-  for (const line in marks) if (marks[line].kind === "next") delete marks[line];
   paint();
   show();
 }
@@ -340,9 +342,7 @@ const current = (now, name) => now === turn && tab === name;
 
 async function show() {
   const now = turn;
-  if (!statements.length || (!readable && tab !== "answer" && tab !== "pairs")) {
-    return pane(tab === "answer" ? "" : note("First fix what is reported above."));
-  }
+  if (!readable) return pane(tab === "answer" ? "" : note("First fix what is reported above."));
   await { answer: showAnswer, cost: showCost, pairs: showPairs, schedules: showSchedules, trace: showTrace }[tab](now);
 }
 
@@ -362,7 +362,6 @@ function ending(outcome) {
 
 function showAnswer() {
   const outcome = answers.serial ?? {};
-  if (!readable) return pane("");
   pane((outcome.message ? failed(outcome) : ending(outcome))
     + note(`On one thread: each async runs in place. ${took}. `
     + (accepted ? "Every schedule gives the same answer: that is proved." : "Other schedules may give another answer: see “Schedules”.")));
@@ -424,10 +423,10 @@ function nextTasks() {
 
 /** Marks the lines whose statements may go next. */
 function markNext() {
-  for (const line in marks) if (marks[line].kind === "next") delete marks[line];
+  nexts = {};
   for (const task of open) {
-    const before = marks[task.line]?.kind === "next" ? `${marks[task.line].says}, ` : "next: ";
-    marks[task.line] = { kind: "next", says: `${before}${task.path}`, why: "click: this task takes the next step" };
+    const before = nexts[task.line] ? `${nexts[task.line].says}, ` : "next: ";
+    nexts[task.line] = { kind: "next", says: `${before}${task.path}`, why: "click: this task takes the next step" };
   }
   paint();
 }
@@ -526,8 +525,8 @@ $("pane").addEventListener("click", event => {
   if (data.step) step(+data.step);
   else if (data.end) showHow([...ends.values()][+data.end]);
   else if (data.lines) {
-    marks = {};
-    for (const line of data.lines.split(",")) mark(+line, "next", "may run together");
+    nexts = {};
+    for (const line of data.lines.split(",")) nexts[line] = { kind: "next", says: "may run together", why: "both may run at the same time" };
     paint();
   } else if (data.do === "back") { choices.pop(); show(); }
   else if (data.do === "again") { choices = []; show(); }
