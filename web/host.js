@@ -184,7 +184,17 @@ function runModule(module, words, files) {
     chown() { return 0; },
     close(number) { open[number] = undefined; return 0; },
     fchmod() { return 0; },
+    fdatasync() { return 0; },
+    flock() { return 0; },
     fsync() { return 0; },
+    ftruncate(number, size) {
+      const file = open[number];
+      if (!file || file.name === undefined) return fail(ERRORS.badFile, -1);
+      const data = new Uint8Array(Number(size));
+      data.set(files[file.name].subarray(0, data.length));
+      files[file.name] = data;
+      return 0;
+    },
     getdents64() { return fail(ERRORS.badFile); },
     isatty() { return 0; },
     lseek(number, offset, from) {
