@@ -95,26 +95,30 @@ def keep_module(kit, room, module):
 def retargeted(kit, room, module):
     """Changes the layout, the target and the processor of the module, and compiles it."""
     clang = f"{kit}/toolchain/bin/clang"
-    text = os.path.join(room, "module.ll")
+    text, changed = os.path.join(room, "module.ll"), os.path.join(room, "changed.ll")
     run([clang, "-x", "ir", "-S", "-emit-llvm", "-Xclang", "-disable-llvm-passes", module, "-o", text])
-    with open(text) as file:
-        lines = file.read().split("\n")
-    for number, line in enumerate(lines):
-        if line.startswith("target datalayout"):
-            lines[number] = f'target datalayout = "{LAYOUT}"'
-        elif line.startswith("target triple"):
-            lines[number] = f'target triple = "{TARGET}"'
-        elif line.startswith("attributes #"):
-            line = line.replace("{ ", "{ nounwind ", 1)
-            line = re.sub(r'"target-cpu"="x86-64[-v0-9]*"', '"target-cpu"="lime1"', line)
-            for mark in ('"probe-stack"="inline-asm"', '"stack-probe-size"="3072"', '"frame-pointer"="all"', "sanitize_address"):
-                line = line.replace(mark, "")
-            lines[number] = line
-        elif "call void @llvm.x86.sse2.pause()" in line:
-            lines[number] = ""  # a hint to the processor
-    with open(text, "w") as file:
-        file.write("\n".join(lines))
-    return compiled(clang, text, os.path.join(room, "module.o"), os.environ.get("LEVEL", "-O1"))
+    with open(text) as lines, open(changed, "w") as file:
+        for line in lines:
+            file.write(for_wasm(line))
+    os.remove(text)
+    return compiled(clang, changed, os.path.join(room, "module.o"), os.environ.get("LEVEL", "-O1"))
+
+
+def for_wasm(line):
+    """A line of the module, for wasm64."""
+    if line.startswith("target datalayout"):
+        return f'target datalayout = "{LAYOUT}"\n'
+    if line.startswith("target triple"):
+        return f'target triple = "{TARGET}"\n'
+    if line.startswith("attributes #"):
+        line = line.replace("{ ", "{ nounwind ", 1)
+        line = re.sub(r'"target-cpu"="x86-64[-v0-9]*"', '"target-cpu"="lime1"', line)
+        for mark in ('"probe-stack"="inline-asm"', '"stack-probe-size"="3072"', '"frame-pointer"="all"', "sanitize_address"):
+            line = line.replace(mark, "")
+        return line
+    if "call void @llvm.x86.sse2.pause()" in line:
+        return ""  # a hint to the processor
+    return line
 
 
 def compiled(clang, source, to, level="-O2"):
