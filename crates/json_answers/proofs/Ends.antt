@@ -238,6 +238,12 @@ module _ (p : Program) (input : List (List ℤ)) (places : List TextPlace) where
         by true is = added is
         by false is = left_out is
 
+  -- nothing was tried yet
+  pub first_search : (ws : List (List ℕ)) (es : List FoundEnd) → ws ≡ [] ∷ [] → es ≡ [] → IsSearchWith p input places ws es
+  first_search ws es ws_are es_are =
+      subst (λ (vs : List (List ℕ)). IsSearchWith p input places vs es) (sym ws_are)
+      (subst (IsSearchWith p input places ([] ∷ [])) (sym es_are) (record { lines = refl; searches = searches_first }))
+
   -- lists that wait, or none
   pub open_search : (ws : List (List ℕ)) (c : List ℕ) (es : List FoundEnd) → IsSearchWith p input places (ws ++ c ∷ []) es
       → (ts : List Candidate) (n : ℕ) → standing p input c ≡ MayStep ts → n ≡ length ts

@@ -162,7 +162,8 @@ fn try_list(
         input,
         places,
     } = searched;
-    match stand_after(alloc, typed, input, &choices)? {
+    let stands = stand_after(alloc, typed, input, &choices)?;
+    match stands {
         Standing::Ended(outcome) => {
             let line = outcome_object(alloc, &typed.code().arrays, places, &outcome)?;
             note(
