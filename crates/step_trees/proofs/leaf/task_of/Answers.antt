@@ -1,4 +1,5 @@
 use Rattle.std.proofs.Common.{ℕ, [], ◌∷◌, ap, sym, ◌∙◌}
+use Rattle.std.proofs.lemmas.List.{nil_from_length}
 use Rattle.step_trees.specs.Standing.{Candidate, candidates_by}
 use Rattle.step_trees.specs.Translation.{blocks, leaf_of}
 use Rattle.step_trees.proofs.Standings.{candidates-top}
@@ -6,10 +7,11 @@ use Rattle.step_trees.proofs.leaf.task_of.Goals as goal
 
 pub returns-in-None : goal.returns-in-None
 returns-in-None c =
-    sym (ap (λ bs. candidates_by (blocks bs) (leaf_of c.args.leaf)) c.in-None.ensures.items)
+    sym (ap (λ bs. candidates_by (blocks bs) (leaf_of c.args.leaf))
+    (nil_from_length c.args.leaf.rest.items c.in-None.ensures.cases.0))
 
-pub returns-in-Some : goal.returns-in-Some
-returns-in-Some c =
+pub returns : goal.returns
+returns c =
     let k = leaf_of c.args.leaf in
     ap (λ (l : ℕ). let one : Candidate = record { path = k.path; label = l } in one ∷ []) c.label.ensures
     ∙ sym (candidates-top c.pop.new.self.items c.in-Some.next k)
