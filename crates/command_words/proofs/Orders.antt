@@ -7,7 +7,7 @@ use Rattle.std.proofs.Common.{true≢false, Global, String}
 use Rattle.std.proofs.lemmas.Slice.Eq.{bytes_eq-Decides}
 use Rattle.command_line.specs.Requests.{Asked, Asks}
 use Rattle.command_words.specs.Orders.{Order, AsText, AsObject, Times, TimesAsObject, Tests, TestsEach, TestsAsObject, Each}
-use Rattle.command_words.specs.Orders.{Orders}
+use Rattle.command_words.specs.Orders.{Walks, Explores, Inspects, Orders}
 use Rattle.command_words.specs.Orders.{AsksForObject, AsksToTest, AsksToTimeAsObject, IsTested, IsTimed}
 use Rattle.command_words.specs.Orders.{subject_of}
 use Rattle.command_words.specs.Reading.{taken}
@@ -117,6 +117,9 @@ none_asked (Tests a) p = absurd (none_begins (codes "test") p.behind p.words_are
 none_asked (TestsEach writes names s) p = absurd p
 none_asked (TestsAsObject writes names s) p = absurd p
 none_asked (Each x files t) p = absurd p
+none_asked (Walks seed a) p = absurd p
+none_asked (Explores x a) p = absurd p
+none_asked (Inspects a) p = absurd p
 
 pub no_words : (ws : List (String Global)) → length ws < 1 → map string_bytes ws ≡ []
 no_words [] short = refl
@@ -141,6 +144,9 @@ module _ (command : List ℕ) (behind : List (List ℕ)) where
   orders_else P nothing times objects tests (TestsEach writes names s) p = absurd p
   orders_else P nothing times objects tests (TestsAsObject writes names s) p = absurd p
   orders_else P nothing times objects tests (Each x files t) p = absurd p
+  orders_else P nothing times objects tests (Walks seed a) p = absurd p
+  orders_else P nothing times objects tests (Explores x a) p = absurd p
+  orders_else P nothing times objects tests (Inspects a) p = absurd p
 
   -- `bench` orders a timing
   pub bench_times : (P : Order → Type 0) → command ≡ codes "bench"
@@ -185,3 +191,6 @@ module _ (command : List ℕ) (behind : List (List ℕ)) where
   told_only P no_test no_bench text object (TestsEach writes names s) p = absurd p
   told_only P no_test no_bench text object (TestsAsObject writes names s) p = absurd p
   told_only P no_test no_bench text object (Each x files t) p = absurd p
+  told_only P no_test no_bench text object (Walks seed a) p = absurd p
+  told_only P no_test no_bench text object (Explores x a) p = absurd p
+  told_only P no_test no_bench text object (Inspects a) p = absurd p

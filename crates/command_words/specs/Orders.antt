@@ -1,6 +1,6 @@
 -- Orders of command lines: to answer for one program, as text or as one object; to time its runs, in the same two
--- ways; to test a program or a folder, or several of both, in the same two ways; or to answer for several
--- programs, one after the other.
+-- ways; to test a program or a folder, or several of both, in the same two ways; to answer for several programs, one
+-- after the other; to draw a run of a program; to tell about its schedules; or to give several answers in one object.
 use Rattle.std.specs.Prelude.{ℕ, ◌≡◌, Bool, true, false, List, [], ◌∷◌, Option, None, Some, IsTrue, codes, map}
 use Rattle.std.specs.String.{string_bytes}
 use Rattle.types.specs.Translation.{budget as budget_of}
@@ -19,6 +19,9 @@ use Rattle.command_words.specs.declared.order.Order.TheVariants.{TimesAsObject a
 use Rattle.command_words.specs.declared.order.Order.TheVariants.{TestsEach as rTestsEach}
 use Rattle.command_words.specs.declared.order.Order.TheVariants.{TestsAsObject as rTestsAsObject}
 use Rattle.command_words.specs.declared.limits.Limits.{Limits}
+use Rattle.command_words.specs.declared.order.Order.TheVariants.{Walks as rWalks, Explores as rExplores}
+use Rattle.command_words.specs.declared.order.Order.TheVariants.{Inspects as rInspects}
+use Rattle.command_words.specs.declared.order.Schedules.{Schedules}
 use Rattle.command_words.specs.declared.order.Subject.{Subject}
 use Rattle.command_words.specs.declared.order.Subject.TheVariants.{Run as RunTold, Serial as SerialTold}
 use Rattle.command_words.specs.declared.order.Subject.TheVariants.{Check as CheckTold, Cost as CostTold}
@@ -36,6 +39,9 @@ pub data Order : Type 0 where
   TestsEach : (writes : Bool) → (names : List (List ℕ)) → (s : Settings) → Order
   TestsAsObject : (writes : Bool) → (names : List (List ℕ)) → (s : Settings) → Order
   Each : (x : Action) → (files : List (List ℕ)) → (t : Telling) → Order
+  Walks : (seed : ℕ) → (a : Asked) → Order
+  Explores : (x : Schedules) → (a : Asked) → Order
+  Inspects : (a : Asked) → Order
 
 abbrev pub order : rOrder → Order
 order (rAsText request) = AsText (asked_of request)
@@ -47,6 +53,9 @@ order (rTestsEach tests) = TestsEach tests.writes (map string_bytes tests.names.
 order (rTestsAsObject tests) =
     TestsAsObject tests.writes (map string_bytes tests.names.now) (settings tests.settings)
 order (rEach several) = Each several.action (map string_bytes several.files.now) several.telling
+order (rWalks seed request) = Walks seed (asked_of request)
+order (rExplores schedules request) = Explores schedules (asked_of request)
+order (rInspects request) = Inspects (asked_of request)
 
 -- a command whose answer can be written as one object
 abbrev pub answer_told : Command → Option Subject
@@ -133,6 +142,9 @@ Orders words (Tests a) = AsksToTest words a
 Orders words (TestsEach writes names s) = ⊥
 Orders words (TestsAsObject writes names s) = ⊥
 Orders words (Each x files t) = ⊥
+Orders words (Walks seed a) = ⊥
+Orders words (Explores x a) = ⊥
+Orders words (Inspects a) = ⊥
 
 -- it gives no two files the same name
 abbrev pub names_once : Order → Bool
@@ -144,3 +156,6 @@ names_once (Tests a) = asks_once a
 names_once (TestsEach writes names s) = true
 names_once (TestsAsObject writes names s) = true
 names_once (Each x files t) = true
+names_once (Walks seed a) = asks_once a
+names_once (Explores x a) = asks_once a
+names_once (Inspects a) = asks_once a

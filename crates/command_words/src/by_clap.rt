@@ -1,7 +1,7 @@
 //! Arguments of a command line that `clap` parses.
 
 use crate::inputs::source_among;
-use crate::order::{Order, SeveralTests, Subject};
+use crate::order::{Order, Schedules, SeveralTests, Subject};
 use clap::error::ErrorKind;
 use clap::{ArgMatches, Error};
 use command_line::request::{
@@ -86,9 +86,13 @@ fn ordered<'w>(
     asked: Option<(&str, &ArgMatches<'w>)>,
 ) -> Result<Order<'w>, Error> {
     let run = Action::Answer(Command::Run);
+    let serial = Action::Answer(Command::Serial);
     match asked {
         Some(("bench", given)) => Ok(timing(given, asking(alloc, words, run, given)?)),
         Some(("test", given)) => Ok(Order::Tests(asking(alloc, words, run, given)?)),
+        Some(("walk", given)) => Ok(walking(given, asking(alloc, words, run, given)?)),
+        Some(("inspect", given)) => Ok(Order::Inspects(asking(alloc, words, serial, given)?)),
+        Some(("explore", given)) => { Ok(exploring(given, request_asked(alloc, words, asked)?)) }
         asked => Ok(told(asked, request_asked(alloc, words, asked)?)),
     }
 }
@@ -98,6 +102,22 @@ fn timing<'w>(given: &ArgMatches<'w>, request: Request<'w>) -> Order<'w> {
     match given.get_str("format") {
         Some("json") => Order::TimesAsObject(request),
         _ => Order::Times(request),
+    }
+}
+
+/// Returns the order of `walk`.
+fn walking<'w>(given: &ArgMatches<'w>, request: Request<'w>) -> Order<'w> {
+    Order::Walks(given.get_one("seed").unwrap_or(0), request)
+}
+
+/// Returns the order of `explore`, in the requested format. `clap` has checked the number of lists.
+fn exploring<'w>(given: &ArgMatches<'w>, request: Request<'w>) -> Order<'w> {
+    if let Some(most) = given.get_one("all") {
+        return Order::Explores(Schedules::All(most), request);
+    }
+    match given.get_str("format") {
+        Some("json") => Order::Explores(Schedules::Chosen, request),
+        _ => Order::AsText(request),
     }
 }
 
@@ -139,7 +159,7 @@ fn action_asked(word: &str, given: &ArgMatches<'_>) -> Option<Action> {
         "list" => Action::Answer(listing(given)),
         "mhp" => Action::Answer(pairing(given)),
         "cost" => Action::Answer(costing(given)),
-        "explore" => Action::Answer(exploring(given)),
+        "explore" => Action::Answer(explored(given)),
         "view" => Action::Answer(viewing(given)),
         _ => return None,
     })
@@ -197,7 +217,7 @@ fn costing(given: &ArgMatches<'_>) -> Command {
 }
 
 /// Returns which command `explore` is.
-fn exploring(given: &ArgMatches<'_>) -> Command {
+fn explored(given: &ArgMatches<'_>) -> Command {
     if given.get_str("html").is_some() {
         Command::Schedules
     } else {

@@ -26,6 +26,21 @@ pub enum Order<'w> {
     TestsAsObject(SeveralTests<'w>),
     /// `check` or `fmt` of several files, one after the other.
     Each(Several<'w>),
+    /// `walk`: a program whose run is drawn from a seed, event by event.
+    Walks(u64, Request<'w>),
+    /// `explore` with one object as its answer.
+    Explores(Schedules, Request<'w>),
+    /// `inspect`: one object with the answers of `check`, `list` and `serial` for a program.
+    Inspects(Request<'w>),
+}
+
+/// Which schedules of a program an object tells about.
+#[derive(Clone, Copy, PartialEq, Eq, Debug)]
+pub enum Schedules {
+    /// `--format json`: the one of the choices that are given.
+    Chosen,
+    /// `--all N`: all that at most this number of lists of choices reach.
+    All(u32),
 }
 
 /// One action for several files.
@@ -55,7 +70,10 @@ impl Order<'_> {
             | Order::AsObject(_, request)
             | Order::Times(request)
             | Order::TimesAsObject(request)
-            | Order::Tests(request) => names_once(request),
+            | Order::Tests(request)
+            | Order::Walks(_, request)
+            | Order::Explores(_, request)
+            | Order::Inspects(request) => names_once(request),
             Order::TestsEach(_) | Order::TestsAsObject(_) | Order::Each(_) => true,
         }
     }

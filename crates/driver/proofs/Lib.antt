@@ -1,3 +1,4 @@
+pub mod Numbered
 pub mod Objects
 pub mod Ordered
 pub mod SeveralFiles

@@ -1,15 +1,18 @@
 -- From a file and a command to the object that the program wrote.
 use Rattle.std.proofs.Common.{◌≡◌, ℕ, List, Option, Some, None, Result, Ok, Err, IfOk, IfErr, sym, subst}
 use Rattle.std.specs.Prelude.{IsErrAnd}
+use Rattle.std.specs.declared.alloc.AllocError.{AllocError}
 use Rattle.std.specs.String.{string_bytes}
 use Rattle.command_line.specs.Requests.{Settings}
-use Rattle.command_line.specs.declared.request.Command.TheVariants.{Run}
+use Rattle.command_line.specs.declared.request.Command.{Command}
+use Rattle.command_line.specs.declared.request.Command.TheVariants.{Check, Labels, Run, Serial}
 use Rattle.files.specs.Held.{Held}
 use Rattle.failures.specs.declared.failure.Failure.{Failure}
 use Rattle.failures.specs.declared.failure.Failure.TheVariants.{NoMemory}
 use Rattle.std.specs.Prelude.{◌≢◌}
 use Rattle.commands.specs.Answers.{IsExplored}
 use Rattle.commands.proofs.Answering.{other_failure}
+use Rattle.json_answers.specs.Inspected.{Describes, ObjectOfInspect, answered, members_text, refused, status_of_both}
 use Rattle.json_answers.specs.Objects.{FailsEarly, ObjectOf}
 use Rattle.json_answers.specs.Failing.{IsToldAsObject, TellsFailure}
 use Rattle.json_answers.specs.declared.object_line.ObjectLine.{ObjectLine}
@@ -23,7 +26,7 @@ use Rattle.failures.specs.declared.failure.Failure.TheVariants.{CannotWriteOutpu
 use Rattle.viewing.proofs.Viewing.{explained, other}
 use Rattle.viewing.specs.Files.{Wrote, WritesTo}
 use Rattle.driver.specs.Acts.{ExplainsAny, Leaves}
-use Rattle.driver.specs.Objects.{FailsEarlyAny, ObjectOfAny, TellsObject, status_in}
+use Rattle.driver.specs.Objects.{FailsEarlyAny, IsDescribed, ObjectOfAny, TellsObject, status_in}
 use Rattle.driver.specs.Traced.{TellsNoRun, WritesTrace}
 use Rattle.driver.proofs.Leaving.{no_run_explained, no_run_other}
 
@@ -87,3 +90,37 @@ module _ (T : Type 0) (P Q : (bytes : List ℕ) → Type 0) (held later : Held) 
       → IfErr r (λ f. f ≡ NoMemory) → WritesTrace file Q held later (status_in r)
   traced_behind None x r w only = w
   traced_behind (Some name) x r w only = written_behind name r w only
+
+-- ---- several answers
+
+-- what a command writes as one object
+pub describes : (c : Command) (file : List ℕ) (s : Settings) (held : Held) (text : List ℕ) (done : Result ObjectLine Failure)
+    (t : ObjectLine) → IfOk done (λ o. ObjectOf c s held text (string_bytes o.line) o.status)
+    → IfErr done (FailsEarly c s held text) → IsDescribed file text done t
+    → Describes c file s held text (string_bytes t.line) t.status
+describes c file s held text (Ok o) t object why is =
+    subst (λ (u : ObjectLine). Describes c file s held text (string_bytes u.line) u.status) (sym is) (answered object)
+describes c file s held text (Err f) t object why is = refused f why is.0 is.1
+
+-- an object with three answers as members
+pub inspect_object : (file : List ℕ) (s : Settings) (held : Held) (text : List ℕ) (check list serial : ObjectLine)
+    → Describes Check file s held text (string_bytes check.line) check.status
+    → Describes Labels file s held text (string_bytes list.line) list.status
+    → Describes Serial file s held text (string_bytes serial.line) serial.status → (r : Result ObjectLine AllocError)
+    → IfOk r (λ t. string_bytes t.line ≡ members_text (string_bytes check.line) (string_bytes list.line) (string_bytes serial.line) t.status)
+    → IfOk r (λ t. t.status ≡ status_of_both check.status serial.status)
+    → IfOk r (λ t. ObjectOfInspect file s held text (string_bytes t.line) t.status)
+inspect_object file s held text check list serial of_check of_list of_serial (Err e) line status = tt
+inspect_object file s held text check list serial of_check of_list of_serial (Ok t) line status = record {
+  check_told = string_bytes check.line;
+  check_status = check.status;
+  check = of_check;
+  list_told = string_bytes list.line;
+  list_status = list.status;
+  list = of_list;
+  serial_told = string_bytes serial.line;
+  serial_status = serial.status;
+  serial = of_serial;
+  told_is = line;
+  status_is = status;
+}

@@ -10,10 +10,12 @@ use Rattle.driver.specs.declared.more.More.{More}
 use Rattle.driver.specs.Acts.{IsSaid, Reports}
 use Rattle.driver.specs.declared.answered.Answered.{Answered}
 use Rattle.driver.specs.declared.refusal.Refusal.{Refusal}
-use Rattle.driver.specs.Orders.{ActsOn, ActsWith, DoesWith, ReadsAnd, TellsTestsAs, TellsUnread, TestsAll, on_text, without_text}
+use Rattle.driver.specs.Orders.{ActsOn, ActsWith, DoesWith, InspectsAs, ReadsAnd, TellsTestsAs, TellsUnread, TestsAll}
+use Rattle.driver.specs.Orders.{on_text, without_text}
 use Rattle.test_and_bench.specs.TestsObject.{TellsTests}
 use Rattle.test_and_bench.specs.Trials.{DoesTest}
 use Rattle.driver.specs.declared.doing.TextOrder.{TextOrder}
+use Rattle.driver.specs.declared.doing.TextOrder.TheVariants.{Inspecting}
 
 -- equal orders do the same
 pub does_so : (d e : TextOrder) → d ≡ e → (a : Asked) (text : List ℕ) (held later : Held) (old new : Option (List ℕ))
@@ -71,6 +73,10 @@ module _ (named : Folders) (held later : Held) (old new err_old err_new : Option
       → TellsTests named held names writes s later old new r → Reports m err_old err_new r status
       → TellsTestsAs names writes s named held later old new err_old err_new status
   told_as names writes s r m is does reports = record { result = r; does = does; reports = bare r m is reports }
+
+  pub inspected_as : (a : Asked) (r : Result ℕ Failure) (m : More) → m ≡ nothing_more → ReadsAnd Inspecting a held later old new r
+      → Reports m err_old err_new r status → InspectsAs a held later old new err_old err_new status
+  inspected_as a r m is does reports = record { result = r; does = does; reports = bare r m is reports }
 
   -- one order is another
   pub ordered : (at_terminal : Bool) (o p : Order) → o ≡ p

@@ -1,16 +1,23 @@
--- The trace of a run, by the events of its log.
-use Rattle.std.proofs.Common.{◌≡◌, ℕ, ℤ, List, Option, Some, ap, ◌∙◌, subst, map}
+-- The trace of a run, by the events of its log, or by those that were drawn.
+use Rattle.std.proofs.Common.{◌≡◌, ℕ, ℤ, List, Option, Some, ap, sym, ◌∙◌, subst, map}
 use Rattle.std.specs.Prelude.{IfSome}
 use Rattle.types.specs.Code.{Program}
 use Rattle.types.specs.Outcome.{Budget, Outcome, outcome}
-use Rattle.types.specs.Translation.{budget}
+use Rattle.types.specs.Translation.{budget, outcome as outcome_in}
 use Rattle.types.specs.declared.budget.Budget.{Budget as rBudget}
+use Rattle.types.specs.declared.outcome.Outcome.{Outcome as rOutcome}
 use Rattle.events.specs.Events.{Event, event as event_of}
+use Rattle.events.specs.declared.event.Event.{Event as rEvent}
 use Rattle.task_run.specs.Jobs.{budget_of, lists_of, program_of}
+use Rattle.event_worlds.specs.Jobs.{IsWeightedJob}
+use Rattle.event_worlds.specs.Numbering.{numbered}
 use Rattle.event_worlds.specs.Replay.{Legal}
+use Rattle.event_worlds.specs.Replaying.{IsReplayed, comes}
 use Rattle.event_worlds.specs.World.{World}
 use Rattle.event_worlds.specs.Worlds.{outcome_of, replayed}
 use Rattle.event_worlds.specs.declared.job.WeightedJob.{WeightedJob}
+use Rattle.event_worlds.specs.declared.world.World.{World as rWorld}
+use Rattle.event_worlds.proofs.Told.{told_is, told_there}
 use Rattle.trace_text.specs.Headers.{TraceHeader, header_of as header_in}
 use Rattle.trace_text.specs.Lines.{trace_text}
 use Rattle.trace_text.specs.declared.format.Format.{Format}
@@ -19,7 +26,8 @@ use Rattle.trace_text.specs.declared.header.Header.{Header}
 use Rattle.trace.specs.Logs.{LeadsToOutcome, Recorded}
 use Rattle.command_line.specs.Requests.{settings}
 use Rattle.command_line.specs.declared.request.RunOptions.{RunOptions as rSettings}
-use Rattle.driver.specs.Traced.{IsTraceOf, header_of}
+use Rattle.driver.specs.Traced.{AreOfRun, IsTraceOf, header_of}
+use Rattle.driver.proofs.Numbered.{numbered_lead}
 
 -- what is known of a value if there is one, where there is one
 pub of_some : {A : Type 0} (P : A → Type 0) (o : Option A) (a : A) → o ≡ Some a → IfSome o P → P a
@@ -42,11 +50,11 @@ record Leads (p : Program) (input : List (List ℤ)) (es : List Event) (w : Worl
   told : outcome_of p w0 b w ≡ Some o
 
 -- those of a log that leads to the run's outcome
-pub is_trace : (l : Recorded) (j : WeightedJob) (h : Header) (s : rSettings) (o : Outcome) (bytes : List ℕ) → l.world.job ≡ j
-    → j.job.budget ≡ s.budget → j.w0 ≡ s.spread.w0 → h.format ≡ Two → h.budget ≡ s.budget → h.w0 ≡ s.spread.w0 → h.workers ≡ s.spread.workers
+pub are_of_run : (l : Recorded) (j : WeightedJob) (s : rSettings) (o : Outcome) → l.world.job ≡ j
+    → j.job.budget ≡ s.budget → j.w0 ≡ s.spread.w0
     → LeadsToOutcome l o → o ≡ outcome (program_of j.job) (lists_of j.job) (budget s.budget)
-    → bytes ≡ trace_text (header_in h) (map event_of l.events) → IsTraceOf (program_of j.job) (lists_of j.job) (settings s) bytes
-is_trace l j h s o bytes job_is budget_is w0_is header_format header_budget header_w0 header_workers to told lines =
+    → AreOfRun (program_of j.job) (lists_of j.job) (settings s) (map event_of l.events)
+are_of_run l j s o job_is budget_is w0_is to told =
     let p = program_of j.job in
     let input = lists_of j.job in
     let es = map event_of l.events in
@@ -58,10 +66,58 @@ is_trace l j h s o bytes job_is budget_is w0_is header_format header_budget head
     subst (λ (b : rBudget). Leads p input es to.world o j.w0 (budget b)) budget_is by_job in
     let leads : Leads p input es to.world o s.spread.w0 (budget s.budget) =
     subst (λ (n : ℕ). Leads p input es to.world o n (budget s.budget)) w0_is under in
+    record { world = to.world; legal = leads.legal; told = leads.told ∙ ap Some told }
+
+-- and its trace
+pub is_trace : (l : Recorded) (j : WeightedJob) (h : Header) (s : rSettings) (o : Outcome) (bytes : List ℕ) → l.world.job ≡ j
+    → j.job.budget ≡ s.budget → j.w0 ≡ s.spread.w0 → h.format ≡ Two → h.budget ≡ s.budget → h.w0 ≡ s.spread.w0 → h.workers ≡ s.spread.workers
+    → LeadsToOutcome l o → o ≡ outcome (program_of j.job) (lists_of j.job) (budget s.budget)
+    → bytes ≡ trace_text (header_in h) (map event_of l.events) → IsTraceOf (program_of j.job) (lists_of j.job) (settings s) bytes
+is_trace l j h s o bytes job_is budget_is w0_is header_format header_budget header_w0 header_workers to told lines =
+    let es = map event_of l.events in
+    let are = are_of_run l j s o job_is budget_is w0_is to told in
     record {
       events = es;
       lines = lines ∙ ap (λ (t : TraceHeader). trace_text t es) (header_is h s header_format header_budget header_w0 header_workers);
-      world = to.world;
-      legal = leads.legal;
-      told = leads.told ∙ ap Some told;
+      world = are.world;
+      legal = are.legal;
+      told = are.told;
+    }
+
+-- ---- a run that was drawn: its events were replayed, and led to a world with an outcome
+
+module _ (r : rWorld) (ok : IsWeightedJob r.job) (j : WeightedJob) (es : List rEvent) (led : IsReplayed j es r) (x : rOutcome)
+    (told : r.told ≡ Some x) where
+  pub drawn_leads : LeadsToOutcome (record { world = r; events = es }) (outcome_in x)
+  drawn_leads = record {
+    world = led.world;
+    legal = subst (λ (k : WeightedJob). comes k es ≡ Legal led.world) (sym led.job) led.legal;
+    is_told = sym (told_there r ok led.world led.shows x told);
+  }
+
+  -- which is that of one thread
+  pub drawn_outcome : (b : rBudget) → j.job.budget ≡ b
+      → outcome_in x ≡ outcome (program_of j.job) (lists_of j.job) (budget b)
+  drawn_outcome b is =
+      subst (λ (k : WeightedJob). outcome_in x ≡ outcome (program_of k.job) (lists_of k.job) (budget k.job.budget)) led.job
+      (told_is r ok led.world led.shows x told)
+      ∙ ap (λ (c : rBudget). outcome (program_of j.job) (lists_of j.job) (budget c)) is
+
+-- the trace of the events of a run, with their numbers
+pub numbered_trace : (p : Program) (input : List (List ℤ)) (s : rSettings) (h to : Header) (es told : List Event) (bytes : List ℕ)
+    → to.format ≡ Two → to.budget ≡ h.budget → to.w0 ≡ h.w0 → to.workers ≡ h.workers
+    → h.budget ≡ s.budget → h.w0 ≡ s.spread.w0 → h.workers ≡ s.spread.workers → AreOfRun p input (settings s) es
+    → told ≡ numbered p h.w0 input (budget h.budget) es → bytes ≡ trace_text (header_in to) told
+    → IsTraceOf p input (settings s) bytes
+numbered_trace p input s h to es told bytes format to_budget to_w0 to_workers h_budget h_w0 h_workers are told_is lines =
+    let so = told_is ∙ ap (λ (b : rBudget). numbered p h.w0 input (budget b) es) h_budget
+    ∙ ap (λ (n : ℕ). numbered p n input (budget s.budget) es) h_w0 in
+    record {
+      events = told;
+      lines = lines ∙ ap (λ (t : TraceHeader). trace_text t told)
+          (header_is to s format (to_budget ∙ h_budget) (to_w0 ∙ h_w0) (to_workers ∙ h_workers));
+      world = are.world;
+      legal = subst (λ (xs : List Event). replayed p s.spread.w0 input (budget s.budget) xs ≡ Legal are.world) (sym so)
+          (numbered_lead p s.spread.w0 input (budget s.budget) es are.world are.legal);
+      told = are.told;
     }

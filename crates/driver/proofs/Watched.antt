@@ -21,6 +21,7 @@ use Rattle.driver.specs.Acts.{IsHandedOn, Reports}
 use Rattle.driver.specs.Watching.{WatchesDoing, WatchesOrder, WatchesTo}
 use Rattle.driver.specs.declared.doing.TextOrder.{TextOrder}
 use Rattle.driver.specs.declared.doing.TextOrder.TheVariants.{Answering, Describing, Timing, TimingAsObject}
+use Rattle.driver.specs.declared.doing.TextOrder.TheVariants.{Exploring, Inspecting, Walking}
 
 -- no failure has the status of an outcome
 of_failure : (f : Failure) → failure_status f ≢ 1 → failure_status f ≤ 3 → ⊥
@@ -77,3 +78,6 @@ unread_watched A Told w nothing Answering a e = not_begun Told A _ e w nothing
 unread_watched A Told w nothing (Describing x) a e = not_begun Told A _ e w nothing
 unread_watched A Told w nothing Timing a e = tt
 unread_watched A Told w nothing TimingAsObject a e = tt
+unread_watched A Told w nothing (Walking seed) a e = refl
+unread_watched A Told w nothing (Exploring x) a e = refl
+unread_watched A Told w nothing Inspecting a e = refl

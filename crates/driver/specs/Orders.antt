@@ -4,6 +4,8 @@ use Rattle.std.specs.Prelude.{IsErrAnd, ◌≡◌, nat_lt, if◌then◌else◌}
 use Rattle.std.specs.Io.KnownBytes.{Keeps}
 use Rattle.command_line.specs.Requests.{Asked, Settings, asked_of, usual}
 use Rattle.command_line.specs.declared.request.Action.{Action}
+use Rattle.command_line.specs.declared.request.Action.TheVariants.{Answer}
+use Rattle.command_line.specs.declared.request.Command.TheVariants.{Run}
 use Rattle.command_line.specs.declared.request.Telling.{Telling}
 use Rattle.files.specs.Held.{Held, HasText, TellsNoProgram}
 use Rattle.failures.specs.declared.failure.Failure.{Failure}
@@ -11,22 +13,24 @@ use Rattle.printing.specs.Appending.{AppendsBeginning}
 use Rattle.printing.specs.Reasons.{escaped}
 use Rattle.json_answers.specs.Failing.{IsToldAsObject, TellsFailure}
 use Rattle.command_words.specs.Orders.{Order, AsText, AsObject, Times, TimesAsObject, Tests, TestsEach}
-use Rattle.command_words.specs.Orders.{TestsAsObject, Each}
+use Rattle.command_words.specs.Orders.{TestsAsObject, Each, Walks, Explores, Inspects}
 use Rattle.command_words.specs.declared.order.Subject.{Subject}
 use Rattle.driver.specs.More.{more_of, nothing_more}
 use Rattle.driver.specs.declared.more.More.{More}
 use Rattle.driver.specs.Acts.{Performs, Reports}
-use Rattle.driver.specs.Objects.{TellsObject}
+use Rattle.driver.specs.Objects.{TellsInspected, TellsObject, TellsSchedules}
 use Rattle.driver.specs.Trying.{TellsTimes, TimesRuns}
 use Rattle.driver.specs.declared.doing.TextOrder.{TextOrder}
 use Rattle.driver.specs.declared.doing.TextOrder.TheVariants.{Answering, Describing, Timing, TimingAsObject}
+use Rattle.driver.specs.declared.doing.TextOrder.TheVariants.{Exploring, Inspecting, Walking}
 use Rattle.driver.specs.declared.loaded.Loaded.{Loaded}
 use Rattle.test_and_bench.specs.Folders.{Folders}
 use Rattle.test_and_bench.specs.TestsObject.{TellsTests}
 use Rattle.test_and_bench.specs.Trials.{DoesTest}
 
 -- this was done with the text of a program: the command was answered, or it was answered as one object, or
--- its runs were timed, with a text or one object
+-- its runs were timed, with a text or one object; or it was run by events drawn from a seed, with the answer, the
+-- failures and the trace of `run`; or one object told about its schedules, or gave several answers
 abbrev pub DoesWith : TextOrder → Asked → (text : List ℕ) → (held later : Held) → (old new : Option (List ℕ))
     → Result ℕ Failure → Type 0
 DoesWith Answering a text held later old new r = Performs a.action a.file a.settings text held later old new r
@@ -34,6 +38,11 @@ DoesWith (Describing x) a text held later old new r =
     TellsObject x a.file a.settings text held later old new r
 DoesWith Timing a text held later old new r = TimesRuns a.settings text held later old new r
 DoesWith TimingAsObject a text held later old new r = TellsTimes a.file a.settings text held later old new r
+DoesWith (Walking seed) a text held later old new r =
+    Performs (Answer Run) a.file a.settings text held later old new r
+DoesWith (Exploring x) a text held later old new r =
+    TellsSchedules x a.file a.settings text held later old new r
+DoesWith Inspecting a text held later old new r = TellsInspected a.file a.settings text held later old new r
 
 -- the order for a request and the text of its file
 abbrev pub DoesWithLoaded : TextOrder → Loaded → (held later : Held) → (old new : Option (List ℕ))
@@ -47,6 +56,9 @@ TellsUnread (Describing x) file old new f = IsToldAsObject (TellsFailure file []
 TellsUnread Answering file old new f = Keeps old new
 TellsUnread Timing file old new f = Keeps old new
 TellsUnread TimingAsObject file old new f = IsToldAsObject (TellsFailure file [] f) old new
+TellsUnread (Walking seed) file old new f = Keeps old new
+TellsUnread (Exploring x) file old new f = IsToldAsObject (TellsFailure file [] f) old new
+TellsUnread Inspecting file old new f = IsToldAsObject (TellsFailure file [] f) old new
 
 -- the failure states why a file has no text of a program, and is reported in this way
 pub record HasNone (d : TextOrder) (held : Held) (file : List ℕ) (old new : Option (List ℕ))
@@ -117,6 +129,12 @@ abbrev pub TellsTestsAs : (names : List (List ℕ)) → (writes : Bool) → Sett
 TellsTestsAs names writes s named held later old new err_old err_new status =
     ActsBy (TellsTests named held names writes s later old new) nothing_more err_old err_new status
 
+-- several answers for a program were written as one object, and that was reported
+abbrev pub InspectsAs : (a : Asked) → (held later : Held) → (old new : Option (List ℕ))
+    → (err_old err_new : Option (List ℕ)) → (status : ℕ) → Type 0
+InspectsAs a held later old new err_old err_new status =
+    ActsBy (ReadsAnd Inspecting a held later old new) nothing_more err_old err_new status
+
 -- ---- several files, one after the other
 
 -- the request for one of the files, under the default settings
@@ -169,3 +187,9 @@ ActsOn at_terminal (TestsAsObject writes names s) named held later old new err_o
     TellsTestsAs names writes s named held later old new err_old err_new status
 ActsOn at_terminal (Each x files t) named held later old new err_old err_new status =
     ActsOnEach (more_of x t at_terminal) x t held old err_old files later new err_new status
+ActsOn at_terminal (Walks seed a) named held later old new err_old err_new status =
+    ActsWith at_terminal (Walking seed) a held later old new err_old err_new status
+ActsOn at_terminal (Explores x a) named held later old new err_old err_new status =
+    ActsWith at_terminal (Exploring x) a held later old new err_old err_new status
+ActsOn at_terminal (Inspects a) named held later old new err_old err_new status =
+    InspectsAs a held later old new err_old err_new status

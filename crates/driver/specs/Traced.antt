@@ -42,6 +42,12 @@ pub record IsTraceOf (p : Program) (input : List (List ℤ)) (s : Settings) (byt
   pub legal : LeadsTo p s.spread.w0 input s.budget events world
   pub told : outcome_of p s.spread.w0 s.budget world ≡ Some (outcome p input s.budget)
 
+-- events of a run of a program on an input, as those of its trace
+pub record AreOfRun (p : Program) (input : List (List ℤ)) (s : Settings) (es : List Event) : Type 0 where
+  pub world : World
+  pub legal : LeadsTo p s.spread.w0 input s.budget es world
+  pub told : outcome_of p s.spread.w0 s.budget world ≡ Some (outcome p input s.budget)
+
 -- the trace of the program of a text and the input that was given
 pub record IsTraceOfText (s : Settings) (held : Held) (text bytes : List ℕ) : Type 0 where
   pub run : IsExplored s held text

@@ -12,9 +12,10 @@ use Rattle.command_line.specs.declared.request.Command.TheVariants.{Page, Schedu
 use Rattle.command_line.specs.declared.request.Command.TheVariants.{Cost, CostByLabel, CostByProcedure}
 use Rattle.command_line.specs.declared.request.Command.TheVariants.{PairsByLine, ViewByLine, SummaryByLine}
 use Rattle.command_words.specs.Orders.{Order, AsText, AsObject, Times, TimesAsObject, Tests, TestsEach}
-use Rattle.command_words.specs.Orders.{TestsAsObject, Each, command_of}
+use Rattle.command_words.specs.Orders.{TestsAsObject, Each, Walks, Explores, Inspects, command_of}
 use Rattle.driver.specs.declared.doing.TextOrder.{TextOrder}
 use Rattle.driver.specs.declared.doing.TextOrder.TheVariants.{Answering, Describing, Timing, TimingAsObject}
+use Rattle.driver.specs.declared.doing.TextOrder.TheVariants.{Exploring, Inspecting, Walking}
 
 -- the progress of a run on one thread is reported on request, and for no other command
 abbrev pub is_watched : Command → Settings → Bool
@@ -54,6 +55,9 @@ module _ {W : Type 0} (Told : List ℕ → W → W → Type 0) where
   WatchesDoing (Describing x) a r old new = Watches Told (is_watched (command_of x) a.settings) r old new
   WatchesDoing Timing a r old new = Unit {0}
   WatchesDoing TimingAsObject a r old new = Unit {0}
+  WatchesDoing (Walking seed) a r old new = new ≡ old
+  WatchesDoing (Exploring x) a r old new = new ≡ old
+  WatchesDoing Inspecting a r old new = new ≡ old
 
   -- on request the progress of the run is reported, up to its end if the status is that of an outcome: a
   -- failure has 1, 4 or 5
@@ -72,3 +76,6 @@ module _ {W : Type 0} (Told : List ℕ → W → W → Type 0) where
   WatchesOrder (TestsEach writes names s) status old new = new ≡ old
   WatchesOrder (TestsAsObject writes names s) status old new = new ≡ old
   WatchesOrder (Each x files t) status old new = Unit {0}
+  WatchesOrder (Walks seed a) status old new = new ≡ old
+  WatchesOrder (Explores x a) status old new = new ≡ old
+  WatchesOrder (Inspects a) status old new = new ≡ old

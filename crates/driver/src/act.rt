@@ -154,6 +154,39 @@ fn carry_out<R: Threads + Wait + Sync, F: FolderSource, O: Write, E: Write, T: T
             report(done, More::nothing(), err)
         }
         Order::Each(several) => do_with_each(rt, alloc, several, files, out, err, terminal),
+        Order::Walks(seed, request) => {
+            let doing = TextOrder::Walking(seed);
+            let more = more_on(request.action, request.telling, terminal);
+            let ordered = Ordered {
+                doing,
+                request,
+                more,
+            };
+            let done = read_and_do(rt, alloc, ordered, files, out, terminal);
+            report(done, more, err)
+        }
+        Order::Explores(schedules, request) => {
+            let doing = TextOrder::Exploring(schedules);
+            let more = more_on(request.action, request.telling, terminal);
+            let ordered = Ordered {
+                doing,
+                request,
+                more,
+            };
+            let done = read_and_do(rt, alloc, ordered, files, out, terminal);
+            report(done, more, err)
+        }
+        Order::Inspects(request) => {
+            let doing = TextOrder::Inspecting;
+            let more = More::nothing();
+            let ordered = Ordered {
+                doing,
+                request,
+                more,
+            };
+            let done = read_and_do(rt, alloc, ordered, files, out, terminal);
+            report(done, more, err)
+        }
     }
 }
 

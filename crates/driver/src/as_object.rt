@@ -5,24 +5,28 @@ ghost use Rattle.std.specs.String.{string_bytes};
 ghost use Rattle.statement_steps.specs.Watched.{Watches};
 ghost use Rattle.command_line.specs.Requests.{asked_of, settings as settings_of};
 ghost use Rattle.command_words.specs.Orders.{command_of};
+ghost use Rattle.json_answers.specs.Explored.{FailsUnexplored};
 ghost use Rattle.json_answers.specs.Failing.{IsToldAsObject, TellsFailure};
 ghost use Rattle.json_answers.specs.Objects.{FailsEarly, ObjectOf};
 ghost use Rattle.driver.specs.Objects.{FailsEarlyAny, ObjectOfAny};
 ghost use Rattle.driver.specs.Acts.{Leaves};
-ghost use Rattle.driver.specs.Objects.{status_in};
+ghost use Rattle.driver.specs.Objects.{ObjectOfSchedules, TellsSchedules, status_in};
 ghost use Rattle.driver.specs.Orders.{DoesWithLoaded};
 ghost use Rattle.driver.specs.Traced.{TracesRun};
 ghost use Rattle.driver.specs.Watching.{WatchesDoing, is_watched};
 ghost use Rattle.driver.specs.declared.doing.TextOrder.TheVariants.{Describing};
 
 use crate::loaded::Loaded;
-use crate::tracing::run_of;
+use crate::tracing::{Schedule, run_of};
 use command_line::request::Command;
-use command_words::order::Subject;
+use command_words::order::{Schedules, Subject};
 use commands::explaining::explanation;
 use commands::question::Question;
 use failures::failure::Failure;
 use files::file_source::FileSource;
+use json_answers::all_ends::all_ends_told;
+use json_answers::exploring::explored_told;
+use json_answers::failed::refusal_line;
 use json_answers::object_line::ObjectLine;
 use json_answers::refused_program::RefusedProgram;
 use json_answers::run_outcomes::outcome_told;
@@ -31,7 +35,7 @@ use json_answers::shares::shares_told;
 use json_answers::telling::{check_told, format_told, list_told, pairs_told};
 use json_answers::writing::{answer_object, tell_refusal};
 use statement_steps::watch::Watch;
-use std::alloc::Global;
+use std::alloc::{AllocError, Global};
 use std::io::Write;
 use std::sync::Wait;
 use std::thread::Threads;
@@ -69,6 +73,57 @@ pub(crate) fn told<R: Threads + Wait + Sync, F: FileSource, O: Write, W: Watch>(
     }
 }
 
+/// `explore` with one object: writes what it tells about these schedules, or the reason why there is
+/// none.
+pub(crate) fn schedules_told<R: Threads + Sync, F: FileSource, O: Write>(
+    rt: &R,
+    schedules: Schedules,
+    loaded: Loaded<'_>,
+    files: &mut F,
+    out: &mut O,
+) -> Result<u8, Failure>
+    ensures { TellsSchedules schedules loaded.entry.request.file.now
+        (settings_of loaded.entry.request.settings) loaded.entry.text.now
+        (F.held files.old) (F.held files.new) (O.contents out.old) (O.contents out.new) result }
+{
+    let Loaded {
+        alloc,
+        request,
+        text,
+    } = loaded;
+    let question = Question {
+        text,
+        settings: request.settings,
+    };
+    match schedules_object(alloc, schedules, question, files) {
+        Ok(told) => answer_object(out, &told),
+        Err(failure) => {
+            tell_explained(rt, loaded, files, &failure, out);
+            Err(failure)
+        }
+    }
+}
+
+/// Returns the object about these schedules.
+fn schedules_object<F: FileSource>(
+    alloc: Global,
+    schedules: Schedules,
+    question: Question<'_>,
+    files: &mut F,
+) -> Result<ObjectLine, Failure>
+    ensures object { IfOk result (λ t. ObjectOfSchedules schedules
+        (settings_of question.entry.settings) (F.held files.old) question.entry.text.now
+        (string_bytes t.line) t.status) }
+    ensures why { IfErr result (FailsUnexplored (settings_of question.entry.settings)
+        (F.held files.old) question.entry.text.now) }
+    ensures keeps { F.held files.new ≡ F.held files.old }
+{
+    match schedules {
+        Schedules::Chosen => explored_told(alloc, question, files),
+        Schedules::All(most) => all_ends_told(alloc, question, most, files),
+    }
+}
+
 /// Writes the object of a failure, with its explanation, if there is memory for both.
 pub(crate) fn tell_explained<R: Threads + Sync, F: FileSource, O: Write>(
     rt: &R,
@@ -95,6 +150,31 @@ pub(crate) fn tell_explained<R: Threads + Sync, F: FileSource, O: Write>(
         };
         tell_refusal(rt, alloc, refused, failure, out);
     }
+}
+
+/// Returns the line of the object of a failure, with its explanation.
+pub(crate) fn line_explained<R: Threads + Sync, F: FileSource>(
+    rt: &R,
+    loaded: Loaded<'_>,
+    files: &mut F,
+    failure: &Failure,
+) -> Result<String, AllocError>
+    ensures told { IfOk result (λ line. TellsFailure loaded.entry.request.file.now
+        loaded.entry.text.now failure.now (string_bytes line)) }
+    ensures keeps { F.held files.new ≡ F.held files.old }
+{
+    let Loaded {
+        alloc,
+        request,
+        text,
+    } = loaded;
+    let more = explanation(rt, alloc, files, request, text, failure)?;
+    let refused = RefusedProgram {
+        file: request.file,
+        text,
+        explanation: more.as_str(),
+    };
+    refusal_line(rt, alloc, refused, failure)
 }
 
 /// Returns the object of the answer for a text.
@@ -142,7 +222,7 @@ fn run_told<R: Threads + Wait + Sync, F: FileSource>(
     ensures trace { TracesRun (settings_of question.entry.settings) question.entry.text.now
         (F.held files.old) (F.held files.new) (status_in result) }
 {
-    let ran = run_of(rt, alloc, question, files)?;
+    let ran = run_of(rt, alloc, Schedule::OnThreads, question, files)?;
     outcome_told(
         alloc,
         question.text,

@@ -8,18 +8,20 @@ ghost use Rattle.driver.specs.Watching.{WatchesDoing};
 ghost use Rattle.json_answers.specs.Failing.{IsToldAsObject, TellsFailure};
 
 use crate::answered::Answered;
-use crate::as_object::told;
+use crate::as_object::{schedules_told, told};
 use crate::handing::handed_on;
+use crate::inspecting::inspected_told;
 use crate::loaded::Loaded;
 use crate::more::More;
 use crate::opening::source_of;
-use crate::performing;
+use crate::performing::{perform, run_as_tasks};
 use crate::refusal::Refusal;
 use crate::source::ProgramSource;
 use crate::terminal::Terminal;
+use crate::tracing::Schedule;
 use crate::trying::{time, time_as_object};
 use command_line::request::Request;
-use command_words::order::Subject;
+use command_words::order::{Schedules, Subject};
 use commands::question::Question;
 use commands::unread::unread_explanation;
 use failures::failure::Failure;
@@ -42,6 +44,12 @@ pub enum TextOrder {
     Timing,
     /// They are timed, and the durations are written as one object.
     TimingAsObject,
+    /// The program is run by events that are drawn from this seed.
+    Walking(u64),
+    /// One object tells about these schedules of the program.
+    Exploring(Schedules),
+    /// Several answers are written as one object.
+    Inspecting,
 }
 
 /// An order for the text of a program, its request, and what follows an answer or a failure.
@@ -109,6 +117,9 @@ fn tell_unread<R: Threads + Sync, F: FileSource, O: Write>(
         TextOrder::Describing(_) => tell_unread_file(rt, alloc, file, files, failure, out),
         TextOrder::Timing => {}
         TextOrder::TimingAsObject => tell_unread_file(rt, alloc, file, files, failure, out),
+        TextOrder::Walking(_) => {}
+        TextOrder::Exploring(_) => tell_unread_file(rt, alloc, file, files, failure, out),
+        TextOrder::Inspecting => tell_unread_file(rt, alloc, file, files, failure, out),
     }
 }
 
@@ -152,7 +163,7 @@ fn do_with<R: Threads + Wait + Sync, F: FileSource, O: Write, T: Terminal>(
 {
     match doing {
         TextOrder::Answering => {
-            let done = performing::perform(rt, loaded, files, out, terminal);
+            let done = perform(rt, loaded, files, out, terminal);
             handed_on(out, done)
         }
         TextOrder::Describing(subject) => told(rt, subject, loaded, files, out, terminal),
@@ -165,6 +176,17 @@ fn do_with<R: Threads + Wait + Sync, F: FileSource, O: Write, T: Terminal>(
             handed_on(out, done)
         }
         TextOrder::TimingAsObject => time_as_object(rt, loaded, files, out, terminal),
+        TextOrder::Walking(seed) => {
+            let question = Question {
+                text: loaded.text,
+                settings: loaded.request.settings,
+            };
+            let schedule = Schedule::Drawn(seed);
+            let done = run_as_tasks(rt, loaded.alloc, schedule, question, files, out);
+            handed_on(out, done)
+        }
+        TextOrder::Exploring(schedules) => schedules_told(rt, schedules, loaded, files, out),
+        TextOrder::Inspecting => inspected_told(rt, loaded, files, out),
     }
 }
 

@@ -7,6 +7,7 @@ mod answered;
 mod as_object;
 mod doing;
 mod handing;
+mod inspecting;
 mod loaded;
 mod more;
 mod opening;

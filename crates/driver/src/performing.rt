@@ -8,7 +8,7 @@ ghost use Rattle.driver.specs.Watching.{WatchesDoing};
 ghost use Rattle.driver.specs.declared.doing.TextOrder.TheVariants.{Answering};
 
 use crate::loaded::Loaded;
-use crate::tracing::run_of;
+use crate::tracing::{Schedule, run_of};
 use command_line::request::{Action, Command};
 use commands::accesses::list_accesses;
 use commands::costing::{Shares, tell_cost};
@@ -56,7 +56,7 @@ pub fn perform<R: Threads + Wait + Sync, F: FileSource, O: Write, W: Watch>(
     match request.action {
         Action::Rewrite => rewrite(alloc, request.file, text, files, out),
         Action::Answer(command) => match command {
-            Command::Run => run_as_tasks(rt, alloc, question, files, out),
+            Command::Run => run_as_tasks(rt, alloc, Schedule::OnThreads, question, files, out),
             Command::Serial => run_serially(alloc, question, files, out, watch),
             Command::Check => check(rt, alloc, About::Counts, text, out),
             Command::Listing => check(rt, alloc, About::Lines, text, out),
@@ -87,11 +87,12 @@ pub fn perform<R: Threads + Wait + Sync, F: FileSource, O: Write, W: Watch>(
     }
 }
 
-/// `run`: runs the program in parallel, and writes its outcome, after its trace if that is
+/// `run` and `walk`: runs the program as tasks, and writes its outcome, after its trace if that is
 /// requested. Returns the exit status.
-fn run_as_tasks<R: Threads + Wait + Sync, F: FileSource, O: Write>(
+pub fn run_as_tasks<R: Threads + Wait + Sync, F: FileSource, O: Write>(
     rt: &R,
     alloc: Global,
+    schedule: Schedule,
     question: Question<'_>,
     files: &mut F,
     out: &mut O,
@@ -101,7 +102,7 @@ fn run_as_tasks<R: Threads + Wait + Sync, F: FileSource, O: Write>(
     ensures trace { TracesRun (settings_of question.entry.settings) question.entry.text.now
         (F.held files.old) (F.held files.new) result }
 {
-    let ran = run_of(rt, alloc, question, files)?;
+    let ran = run_of(rt, alloc, schedule, question, files)?;
     show(
         out,
         &ran.given.accepted.typed().code().arrays,

@@ -55,7 +55,16 @@ fn explaining_words(alloc: Global, command: &str) -> io::Result<Option<Vec<Strin
 /// Returns whether a command takes `--explain`.
 fn takes_explain(command: &str) -> bool {
     match command {
-        "check" | "fmt" | "list" | "mhp" | "run" | "serial" | "bench" | "explore" | "view" => true,
+        "check"
+        | "fmt"
+        | "list"
+        | "mhp"
+        | "run"
+        | "serial"
+        | "bench"
+        | "explore"
+        | "walk"
+        | "view" => true,
         _ => false,
     }
 }

@@ -6,5 +6,7 @@ pub mod NoFloatsInRaces
 pub mod ShallowRaces
 pub mod StatementValues
 pub mod SoFar
+pub mod Ends
+pub mod Exploring
 pub mod Failures
 pub mod Written

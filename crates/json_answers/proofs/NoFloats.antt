@@ -1,7 +1,7 @@
 -- None of the values has a float, therefore each has one compact text.
 use Rattle.std.proofs.Common.{◌≡◌, ℕ, List, [], ◌∷◌, map, Option, None, Some, false, refl}
 use Rattle.std.proofs.Common.{Ordering, Less, Equal, Greater, nat_cmp}
-use Rattle.std.specs.Prelude.{ℤ, pos, negsuc, ◌||◌}
+use Rattle.std.specs.Prelude.{ℤ, pos, negsuc, ◌||◌, Bool}
 use Rattle.std.specs.Cmp.Lexicographic.{slice_cmp}
 use Rattle.std.specs.List.{AllByRecursion, zip}
 use Rattle.std.specs.Option.{option_map}
@@ -16,6 +16,9 @@ use Rattle.types.specs.Code.{Array}
 use Rattle.types.specs.Outcome.{Outcome, Ended, Stopped}
 use Rattle.types.specs.Run.{Fault}
 use Rattle.failures.specs.declared.failure.Failure.{Failure}
+use Rattle.step_trees.specs.Standing.{Candidate}
+use Rattle.json_answers.specs.AllEnds.{End, end_json, end_members, ends_json, ends_members}
+use Rattle.json_answers.specs.Candidates.{candidate_json, candidate_members, open_json, open_members}
 use Rattle.json_answers.specs.Faults.{fault_json, fault_members, raised_number}
 use Rattle.json_answers.specs.Outcomes.{ended_members, numbers_json, put_arrays, outcome_json}
 use Rattle.json_answers.specs.Pieces.{integer, natural, list_by, or_null, members_by, object_of}
@@ -107,6 +110,30 @@ outcome_has_none declared places (Ended e) =
       ),
     )
 outcome_has_none declared places Stopped = refl
+
+candidate_has_none : (places : List TextPlace) (c : Candidate) → HasNoFloat (candidate_json places c)
+candidate_has_none places c =
+    let place = place_at places c.label in
+    object_has_none (candidate_members places c) (
+      or_null_has_none natural (column_of place) natural_has_none,
+      (refl, (or_null_has_none natural (line_of place) natural_has_none, (refl, tt))),
+    )
+
+pub open_has_none : (places : List TextPlace) (cs : List Candidate) → HasNoFloat (open_json places cs)
+open_has_none places cs =
+    object_has_none (open_members places cs)
+    (list_has_none (candidate_json places) cs (candidate_has_none places), (refl, tt))
+
+end_has_none : (declared : List Array) (places : List TextPlace) (e : End) → HasNoFloat (end_json declared places e)
+end_has_none declared places e =
+    object_has_none (end_members declared places e)
+    (list_has_none natural e.choices natural_has_none, (outcome_has_none declared places e.outcome, tt))
+
+pub ends_have_none : (declared : List Array) (places : List TextPlace) (all : Bool) (es : List End) (tried : ℕ)
+    → HasNoFloat (ends_json declared places all es tried)
+ends_have_none declared places all es tried =
+    object_has_none (ends_members declared places all es tried)
+    (refl, (list_has_none (end_json declared places) es (end_has_none declared places), (refl, (refl, tt))))
 
 pub pairs_have_none : (pairs : List (ℕ × ℕ)) → HasNoFloat (pairs_json pairs)
 pairs_have_none pairs =

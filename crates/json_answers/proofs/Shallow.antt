@@ -1,7 +1,7 @@
 -- The values are nested no deeper than the parser accepts.
 use Rattle.std.proofs.Common.{◌≤◌, ℕ, suc, List, [], ◌∷◌, map, Option, None, Some, arith}
 use Rattle.std.proofs.Common.{Less, Equal, Greater, nat_cmp}
-use Rattle.std.specs.Prelude.{ℤ}
+use Rattle.std.specs.Prelude.{ℤ, Bool}
 use Rattle.std.specs.Cmp.Lexicographic.{slice_cmp}
 use Rattle.std.specs.List.{AllByRecursion, zip}
 use Rattle.std.specs.Option.{option_map}
@@ -16,6 +16,9 @@ use Rattle.types.specs.Outcome.{Outcome, Ended, Stopped}
 use Rattle.types.specs.Run.{Fault}
 use Rattle.failures.specs.declared.failure.Failure.{Failure}
 use Rattle.cost.specs.declared.cost.Cost.{Cost}
+use Rattle.step_trees.specs.Standing.{Candidate}
+use Rattle.json_answers.specs.AllEnds.{End, end_json, end_members, ends_json, ends_members}
+use Rattle.json_answers.specs.Candidates.{candidate_json, candidate_members, open_json, open_members}
 use Rattle.json_answers.specs.Costs.{cost_json}
 use Rattle.json_answers.specs.Faults.{fault_json, fault_members, raised_number}
 use Rattle.json_answers.specs.Outcomes.{ended_members, numbers_json, put_arrays, outcome_json}
@@ -102,19 +105,35 @@ fault_within places f =
       ),
     )
 
-pub outcome_within : (declared : List Array) (places : List TextPlace) (o : Outcome)
-    → depth (outcome_json declared places o) ≤ max_depth
-outcome_within declared places (Ended e) =
+outcome_small : (declared : List Array) (places : List TextPlace) (o : Outcome) → Within 3 (outcome_json declared places o)
+outcome_small declared places (Ended e) =
     let arrays = arrays_within (zip declared e.arrays) no_members (omega arith) in
-    let whole = object_within 2 (ended_members declared places e) (
+    object_within 2 (ended_members declared places e) (
       omega arith,
       (
         list_within 1 (fault_json places) e.faults (fault_within places),
         (list_within 1 numbers_json e.lines numbers_within, (omega arith, (omega arith, tt))),
       ),
+    )
+outcome_small declared places Stopped = omega arith
+
+pub outcome_within : (declared : List Array) (places : List TextPlace) (o : Outcome)
+    → depth (outcome_json declared places o) ≤ max_depth
+outcome_within declared places o = let whole = outcome_small declared places o in omega (arith, whole)
+
+end_within : (declared : List Array) (places : List TextPlace) (e : End) → Within 4 (end_json declared places e)
+end_within declared places e =
+    let choices = list_within 0 natural e.choices natural_within in
+    object_within 3 (end_members declared places e) (omega (arith, choices), (outcome_small declared places e.outcome, tt))
+
+pub ends_within : (declared : List Array) (places : List TextPlace) (all : Bool) (es : List End) (tried : ℕ)
+    → depth (ends_json declared places all es tried) ≤ max_depth
+ends_within declared places all es tried =
+    let whole = object_within 5 (ends_members declared places all es tried) (
+      omega arith,
+      (list_within 4 (end_json declared places) es (end_within declared places), (omega arith, (omega arith, tt))),
     ) in
-    omega arith
-outcome_within declared places Stopped = omega arith
+    omega (arith, whole)
 
 pub accepted_within : (p : Program) → depth (accepted_json p) ≤ max_depth
 accepted_within p = omega arith
@@ -129,6 +148,20 @@ pub pairs_within : (pairs : List (ℕ × ℕ)) → depth (pairs_json pairs) ≤ 
 pairs_within pairs =
     let whole = object_within 2 (pairs_members pairs)
     (list_within 1 pair_json pairs (λ pair. list_within 0 natural (pair.0 ∷ pair.1 ∷ []) natural_within), (omega arith, tt)) in
+    omega arith
+
+candidate_within : (places : List TextPlace) (c : Candidate) → Within 1 (candidate_json places c)
+candidate_within places c =
+    let place = place_at places c.label in
+    object_within 0 (candidate_members places c) (
+      or_null_within 0 natural (column_of place) natural_within,
+      (omega arith, (or_null_within 0 natural (line_of place) natural_within, (omega arith, tt))),
+    )
+
+pub open_within : (places : List TextPlace) (cs : List Candidate) → depth (open_json places cs) ≤ max_depth
+open_within places cs =
+    let whole = object_within 2 (open_members places cs)
+    (list_within 1 (candidate_json places) cs (candidate_within places), (omega arith, tt)) in
     omega arith
 
 pub string_within : (s : List ℕ) → Within 0 (string s)

@@ -1,5 +1,9 @@
+pub mod AllEnds
+pub mod Candidates
 pub mod Costs
+pub mod Explored
 pub mod Failing
+pub mod Inspected
 pub mod Faults
 pub mod Given
 pub mod Objects
@@ -9,6 +13,7 @@ pub mod Places
 pub mod Programs
 pub mod Races
 pub mod Refusals
+pub mod Searching
 pub mod Statements
 pub mod Steps
 pub mod Summaries

@@ -2,10 +2,13 @@
 
 #![tactic(auto)]
 
+pub mod all_ends;
 pub mod costs;
+pub mod exploring;
 pub mod failed;
 pub mod faults;
 pub mod found;
+pub mod inspecting;
 pub mod laws;
 pub mod line;
 pub mod names;
@@ -19,6 +22,7 @@ pub mod refused_program;
 pub mod run_outcomes;
 pub mod running;
 pub mod shares;
+pub mod standings;
 pub mod statements;
 pub mod steps;
 pub mod summaries;

@@ -38,7 +38,7 @@ pub fn outcome_object(
 }
 
 /// Returns the value of an outcome.
-fn outcome_value(
+pub(crate) fn outcome_value(
     alloc: Global,
     declared: &[Array],
     places: &[TextPlace],

@@ -52,6 +52,8 @@ enum Takes {
     MaybeOneOf(&'static str, &'static [&'static str], &'static str),
     /// An option with a number in this inclusive range.
     Number(i64, i64),
+    /// An option with a number in this inclusive range that conflicts with these options.
+    NumberBut(i64, i64, &'static [&'static str]),
     /// An option with a 64-bit number.
     Seed,
 }
@@ -181,6 +183,24 @@ const CHOICES_FROM: Entry = Entry {
 const RANDOM: Entry = Entry {
     name: "random",
     help: "Seed for random choices, 0 to 18446744073709551615; stops at the end or after 1000000 choices",
+    takes: Takes::Seed,
+};
+
+const EVERY: Entry = Entry {
+    name: "all",
+    help: "Print one object with the different ends of all schedules, trying at most N lists of choices, 1 to 1000000",
+    takes: Takes::NumberBut(1, 1_000_000, &["choices", "choices-from", "random", "html"]),
+};
+
+const WALKERS: Entry = Entry {
+    name: "workers",
+    help: "Number of workers between which tasks are stolen, 1 to 64 [default: 4]; starts no thread",
+    takes: Takes::Number(1, 64),
+};
+
+const SEEDED: Entry = Entry {
+    name: "seed",
+    help: "Seed of the schedule, 0 to 18446744073709551615 [default: 0]",
     takes: Takes::Seed,
 };
 
@@ -358,10 +378,24 @@ Example: afx test --write examples/tested/total.afx";
 
 const EXPLORE_EXAMPLE: &str =
     "A choice is the number of the task that takes the next step. The tasks that can take one are numbered from 0 in
-depth-first order. A task can take a step unless it has ended or is waiting at a finish.
+depth-first order. A task can take a step unless it has ended or is waiting at a finish. With --format json the answer
+lists them in this order, each with its next statement, and a program with a race is explored too.
 
 Example: afx explore examples/two_arrays.afx --choices 0,0,1
 Example: afx explore examples/two_arrays.afx --html two_arrays.html";
+
+const INSPECT_EXAMPLE: &str =
+    "The object has three members, each of which is exactly what that command prints with --format json: `check`, `list` and
+`serial`. If the program is rejected, the first one says why, and what would be right. The status is that of `check`, or
+that of `serial` if the program is accepted.
+
+Example: afx inspect examples/race.afx";
+
+const WALK_EXAMPLE: &str =
+    "The workers take, steal and run tasks in an order that is drawn from the seed, one event after the other. The outcome
+is that of `afx run`. The trace is one of the program, and the same on every machine.
+
+Example: afx walk examples/two_arrays.afx --workers 2 --seed 7 --trace two_arrays.trace";
 
 const VIEW_EXAMPLE: &str =
     "FILE and JSON are the program and the input of the traced run. The trace records its budget and its workers. A trace
@@ -462,7 +496,10 @@ const TESTED: Row = Row {
 const SCHEDULES: Entry = Entry {
     name: "html",
     help: "Write a page to this HTML file in which each step can be chosen in a browser",
-    takes: Takes::TextBut("OUT", &["choices", "choices-from", "random", "arrays"]),
+    takes: Takes::TextBut(
+        "OUT",
+        &["choices", "choices-from", "random", "arrays", "format"],
+    ),
 };
 
 const EXPLORED: Row = Row {
@@ -477,11 +514,29 @@ const EXPLORED: Row = Row {
         CHOICES,
         CHOICES_FROM,
         RANDOM,
+        EVERY,
         ARRAYS,
+        FORMAT,
         SCHEDULES,
         EXPLAIN,
         COLOR,
     ],
+};
+
+const WALKED: Row = Row {
+    name: "walk",
+    about: "Run a program under a random schedule with steals, without threads",
+    example: WALK_EXAMPLE,
+    entries: &[
+        FILE, INPUT, SET, TEXT, STEPS, NEST, W0, WALKERS, SEEDED, TRACED, ARRAYS, EXPLAIN, COLOR,
+    ],
+};
+
+const INSPECTED: Row = Row {
+    name: "inspect",
+    about: "Check, list and run a program, and print one JSON object",
+    example: INSPECT_EXAMPLE,
+    entries: &[FILE, INPUT, SET, TEXT, STEPS, NEST],
 };
 
 const VIEWED: Row = Row {
@@ -528,9 +583,9 @@ const MANUAL: Row = Row {
 };
 
 /// All commands, in the order of the help.
-const ROWS: [Row; 14] = [
-    RUN, SERIAL, CHECKED, LISTED, FORMATTED, PAIRED, COSTED, BENCHED, TESTED, EXPLORED, VIEWED,
-    EXPLAINED, COMPLETED, MANUAL,
+const ROWS: [Row; 16] = [
+    RUN, SERIAL, CHECKED, LISTED, FORMATTED, PAIRED, COSTED, BENCHED, TESTED, EXPLORED, WALKED,
+    INSPECTED, VIEWED, EXPLAINED, COMPLETED, MANUAL,
 ];
 
 /// The text after the help of the program.
@@ -561,6 +616,8 @@ pub const CLOSING: Closing<'static> = Closing {
         BENCH_EXAMPLE,
         TEST_EXAMPLE,
         EXPLORE_EXAMPLE,
+        WALK_EXAMPLE,
+        INSPECT_EXAMPLE,
         VIEW_EXAMPLE,
         EXPLAIN_EXAMPLE,
         COMPLETIONS_EXAMPLE,
@@ -614,7 +671,7 @@ fn is_option(takes: Takes) -> bool {
 /// Returns the numbers that an entry takes.
 fn numbers_of(takes: Takes) -> Option<Range> {
     match takes {
-        Takes::Number(least, most) => Some(Range {
+        Takes::Number(least, most) | Takes::NumberBut(least, most, _) => Some(Range {
             least: u64::try_from(least).unwrap_or(0),
             most: u64::try_from(most).unwrap_or(0),
         }),
@@ -699,6 +756,11 @@ fn argument<'w>(alloc: Global, entry: Entry) -> Result<Arg<'w>, AllocError> {
             .long(entry.name)
             .value_name("N")
             .value_parser(value_parser!(u64).range(least..=most)),
+        Takes::NumberBut(least, most, others) => {
+            let argument = argument.long(entry.name).value_name("N");
+            let argument = argument.conflicts_with_all(others)?;
+            argument.value_parser(value_parser!(u64).range(least..=most))
+        }
         Takes::Seed => argument
             .long(entry.name)
             .value_name("SEED")

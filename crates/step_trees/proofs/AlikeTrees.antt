@@ -16,6 +16,7 @@ use Rattle.step_trees.specs.declared.tree.Around.{Around}
 use Rattle.step_trees.specs.declared.tree.Around.TheVariants.{Behind, Left, Right}
 use Rattle.step_trees.specs.Alike.{AreAlike}
 use Rattle.step_trees.specs.Held.{within, inside}
+use Rattle.step_trees.specs.Standing.{HasEnded, MayStep, candidates, stands_at, stands_on, standing_from}
 use Rattle.step_trees.specs.Windows.{TreeLies}
 use Rattle.step_trees.proofs.Steps.{Step, step_from, step_to, ready_steps, others_stay, below_if, above_if}
 
@@ -72,6 +73,9 @@ alike-lines = alike-told lines_of (λ t u. refl) (λ t x k. refl)
 
 alike-faults : {t u : Tree} → AreAlike t u → faults_of t ≡ faults_of u
 alike-faults = alike-told faults_of (λ t u. refl) (λ t x k. refl)
+
+pub alike-candidates : {t u : Tree} → AreAlike t u → candidates t ≡ candidates u
+alike-candidates = alike-told candidates (λ t u. refl) (λ t x k. refl)
 
 alike-owner : {t u : Tree} → AreAlike t u → rightmost t ≡ rightmost u
 alike-owner AreAlike.same = refl
@@ -200,3 +204,30 @@ module _ (p : Program) where
           let past : ready t ≤ c = above_if c (ready t) e in let same = alike-ready g in
           ap (goes_on n (explored_from p (n + 1) cs)) (others_stay p c t a past)
           ∙ sym (ap (goes_on n (explored_from p (n + 1) cs)) (others_stay p c u a (omega (arith, past, same))))
+
+  -- and both stand at the same place
+
+  alike-stands : {t u : Tree} (a : Contents) → AreAlike t u → stands_at p t a ≡ stands_at p u a
+  alike-stands {t} {u} a g =
+      ap (λ (b : Bool). if b then HasEnded (Ended (tree_ending p t a)) else MayStep (candidates t)) (alike-done g)
+      ∙ ap (λ cs. if all_done u then HasEnded (Ended (tree_ending p t a)) else MayStep cs) (alike-candidates g)
+      ∙ ap (λ (ls : List (List ℤ)). if all_done u then HasEnded (Ended (record (tree_ending p t a) { lines = ls })) else MayStep (candidates u)) (alike-lines g)
+      ∙ ap (λ (fs : List Fault). if all_done u then HasEnded (Ended (record (tree_ending p u a) { faults = fs })) else MayStep (candidates u)) (alike-faults g)
+
+  pub alike-standing : (n : ℕ) (cs : List ℕ) (t u : Tree) (a : Contents) → AreAlike t u
+      → standing_from p n cs t a ≡ standing_from p n cs u a
+  alike-standing n [] t u a g = alike-stands a g
+  alike-standing n (c ∷ cs) t u a g = by (nat_lt c (ready t)) refl (alike-standing (n + 1) cs)
+    where
+      by : (z : Bool) → nat_lt c (ready t) ≡ z
+          → ((v w : Tree) (b : Contents) → AreAlike v w → standing_from p (n + 1) cs v b ≡ standing_from p (n + 1) cs w b)
+          → standing_from p n (c ∷ cs) t a ≡ standing_from p n (c ∷ cs) u a
+      by true e more =
+          let s = ready_steps p c t a (below_if c (ready t) e) in
+          let r = alike-comes c a g s.step in
+          ap (stands_on n (standing_from p (n + 1) cs)) s.step ∙ more s.tree r.tree s.store r.alike
+          ∙ sym (ap (stands_on n (standing_from p (n + 1) cs)) r.step)
+      by false e more =
+          let past : ready t ≤ c = above_if c (ready t) e in let same = alike-ready g in
+          ap (stands_on n (standing_from p (n + 1) cs)) (others_stay p c t a past)
+          ∙ sym (ap (stands_on n (standing_from p (n + 1) cs)) (others_stay p c u a (omega (arith, past, same))))

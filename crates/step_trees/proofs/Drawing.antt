@@ -26,12 +26,12 @@ picked-below number leaves h = mod-lt (number / 4294967296) h
 
 module _ (p : Program) where
   -- nothing is drawn after the last choice
-  drawn-over : (n : ℕ) (t : Tree) (a : Contents) → drawn p zero n t a ≡ []
+  pub drawn-over : (n : ℕ) (t : Tree) (a : Contents) → drawn p zero n t a ≡ []
   unfolding drawn
   drawn-over n t a = refl
 
   -- nothing is drawn if no leaf may step
-  drawn-none : (m n : ℕ) (t : Tree) (a : Contents) → ready t ≡ 0 → drawn p m n t a ≡ []
+  pub drawn-none : (m n : ℕ) (t : Tree) (a : Contents) → ready t ≡ 0 → drawn p m n t a ≡ []
   unfolding drawn
   drawn-none zero n t a e = refl
   drawn-none (suc m) n t a e =
@@ -44,7 +44,7 @@ module _ (p : Program) where
   drawn-some m n t a e =
       ap (λ (z : Bool). if z then [] else (let l = next_number n in let c = picked l (ready t) in c ∷ behind (drawn p m l) (step p c t a))) e
 
-  drawn-step : (m n c : ℕ) (t u : Tree) (a b : Contents) → 0 < ready t → c ≡ picked (next_number n) (ready t)
+  pub drawn-step : (m n c : ℕ) (t u : Tree) (a b : Contents) → 0 < ready t → c ≡ picked (next_number n) (ready t)
       → step p c t a ≡ Some (u, b) → drawn p (suc m) n t a ≡ c ∷ drawn p m (next_number n) u b
   drawn-step m n c t u a b h e s =
       let some : nat_eq (ready t) 0 ≡ false = grind (arith, nat_tests) in
@@ -53,7 +53,7 @@ module _ (p : Program) where
       ∙ ap (λ o. c ∷ behind (drawn p m (next_number n)) o) s
 
   -- the same choices are drawn for trees that are alike
-  alike-drawn : (m n : ℕ) (t u : Tree) (a : Contents) → AreAlike t u → drawn p m n t a ≡ drawn p m n u a
+  pub alike-drawn : (m n : ℕ) (t u : Tree) (a : Contents) → AreAlike t u → drawn p m n t a ≡ drawn p m n u a
   alike-drawn zero n t u a g = drawn-over n t a ∙ sym (drawn-over n u a)
   alike-drawn (suc m) n t u a g = by (ready t) refl (alike-drawn m (next_number n))
     where

@@ -17,6 +17,7 @@ use Rattle.step_trees.specs.declared.tree.Remains.{Remains}
 use Rattle.step_trees.specs.declared.tree.Tree.{Tree as rTree}
 use Rattle.step_trees.specs.declared.tree.Tree.TheVariants.{Single as rSingle, AndThen' as rAndThen, Beside' as rBeside}
 use Rattle.step_trees.specs.Held.{tree_of, IsLeftOf}
+use Rattle.step_trees.specs.Standing.{candidates}
 
 -- a leaf is done if no block is left
 pub done_by : (k : rLeaf) (b : Bool) → nat_eq (length k.rest.items) 0 ≡ b → is_done (leaf_of k).rest ≡ b
@@ -68,6 +69,16 @@ lines-beside = told-beside lines_of (λ t u. refl)
 pub faults-beside : (bs : List (Box rTree Global)) (t u : Tree)
     → faults_of (with_rights bs (Beside t u)) ≡ faults_of t ++ faults_of (with_rights bs u)
 faults-beside = told-beside faults_of (λ t u. refl)
+
+pub candidates-beside : (bs : List (Box rTree Global)) (t u : Tree)
+    → candidates (with_rights bs (Beside t u)) ≡ candidates t ++ candidates (with_rights bs u)
+candidates-beside = told-beside candidates (λ t u. refl)
+
+-- the body of a finish has the tasks of the whole
+pub candidates-first : (bs : List (Box rTree Global)) (t : Tree) (h : Handler) (k : Leaf)
+    → candidates (with_rights bs (AndThen t h k)) ≡ candidates (with_rights bs t)
+candidates-first [] t h k = refl
+candidates-first (x ∷ bs) t h k = ap (λ l. l ++ candidates (tree_of x.value)) (candidates-first bs t h k)
 
 pub rightmost-beside : (bs : List (Box rTree Global)) (t u : Tree)
     → rightmost (with_rights bs (Beside t u)) ≡ rightmost (with_rights bs u)

@@ -7,6 +7,7 @@ pub mod Drawing
 pub mod Dropping
 pub mod Examples
 pub mod Exploring
+pub mod Extending
 pub mod FirstLeaves
 pub mod Footprints
 pub mod GoodTrees
@@ -25,6 +26,7 @@ pub mod PlacesTouched
 pub mod ReachedTrees
 pub mod Rests
 pub mod Scopes
+pub mod Standings
 pub mod Statements
 pub mod Steps
 pub mod Turns

@@ -5,6 +5,7 @@ pub mod Found
 pub mod Held
 pub mod Laws
 pub mod Places
+pub mod Standing
 pub mod Still
 pub mod Translation
 pub mod Turns

@@ -20,6 +20,11 @@ abbrev pub block : RestOfBlock → Codes
 block (Block first others) = Then first.now.label (code first.now.kind) (codes others.now)
 block (Turns t) = Then t.label (begun t) End
 
+-- the label of what is next in a block
+abbrev pub label_of : RestOfBlock → ℕ
+label_of (Block first others) = first.now.label
+label_of (Turns t) = t.label
+
 -- the turns of a `parts` of a section with this window before other statements, if one is left
 abbrev pub with_turns : TurnsToCome → Window → Codes → Codes
 with_turns t w rest = if has_piece w t.size t.next then Then t.label (begun t) rest else rest

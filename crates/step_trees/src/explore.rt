@@ -32,6 +32,7 @@ use types::input::Input;
 use types::laws::typed_programs_are_sound;
 use types::outcome::Outcome;
 use types::path::Path;
+use types::typed::Typed;
 
 /// The result of a run by given choices.
 #[derive(PartialEq, Eq, Debug, Drop)]
@@ -100,7 +101,7 @@ fn by_choices<'p>(
 }
 
 /// The maximum number of choices that are drawn.
-const MOST_DRAWN: u32 = 1_000_000;
+pub(crate) const MOST_DRAWN: u32 = 1_000_000;
 
 /// Runs an accepted program by choices that a generator draws from a seed, until no leaf may step
 /// or 1,000,000 leaves have. The input has a list for each array, of its length.
@@ -154,7 +155,7 @@ fn by_draws<'p>(plan: Plan<'p>, course: Course<'p>, seed: u64) -> Result<Explore
 }
 
 /// Returns the generator's next number after this one.
-fn next_number(number: u64) -> u64
+pub(crate) fn next_number(number: u64) -> u64
     ensures { result ≡ number_behind number }
 {
     let product = u128::from(number) * 6_364_136_223_846_793_005;
@@ -163,7 +164,7 @@ fn next_number(number: u64) -> u64
 
 /// Returns the leaf that a number names, among this number of leaves. The upper half of the number
 /// decides.
-fn picked(number: u64, leaves: u32) -> u32
+pub(crate) fn picked(number: u64, leaves: u32) -> u32
     requires { 0 < leaves }
     ensures named { result < leaves }
     ensures picked { result ≡ picked_by number leaves }
@@ -180,9 +181,21 @@ fn begun<'p>(
     requires { FitsArrays (code_of accepted.now.typed).arrays (lists_in input.now) }
     ensures { IfOk result (Begins (code_of accepted.entry.now.typed) (lists_in input.now)) }
 {
+    begun_of(alloc, accepted.typed(), input)
+}
+
+/// Returns a run of a program on an input, at its start.
+pub(crate) fn begun_of<'p>(
+    alloc: Global,
+    typed: &'p Typed,
+    input: &Input,
+) -> Result<(Plan<'p>, Course<'p>), AllocError>
+    requires { FitsArrays (code_of typed.now).arrays (lists_in input.now) }
+    ensures { IfOk result (Begins (code_of typed.entry.now) (lists_in input.now)) }
+{
     let plan = Plan {
         alloc,
-        program: accepted.typed().code(),
+        program: typed.code(),
         budget: Budget::usual(),
     };
     let place = start(plan)?;
@@ -219,7 +232,11 @@ fn first<'p>(plan: Plan<'p>) -> Result<Tree<'p>, AllocError>
 }
 
 /// Runs one step of the leaf with a number, among the leaves that may step.
-fn step<'p>(plan: Plan<'p>, course: Course<'p>, choice: u32) -> Result<Course<'p>, AllocError>
+pub(crate) fn step<'p>(
+    plan: Plan<'p>,
+    course: Course<'p>,
+    choice: u32,
+) -> Result<Course<'p>, AllocError>
     requires held { IsHeld plan course }
     requires choice { choice < ready_leaves (whole course.place) }
     ensures { IfOk result (StepsTree plan.entry course.entry choice) }

@@ -1,7 +1,7 @@
 //! Theorems about the definitions. Each is the contract of a function that does nothing.
 
 ghost use Rattle.std.specs.Prelude.{◌≡◌, ◌≢◌, ◌<◌, ◌≤◌, ◌⊎◌, ℕ, ℤ, List, Some, None, true};
-ghost use Rattle.std.specs.Prelude.{false, length, replicate};
+ghost use Rattle.std.specs.Prelude.{◌++◌, false, length, replicate};
 ghost use Rattle.sections.specs.Member.{Member};
 ghost use Rattle.sections.specs.Place.{Place};
 ghost use Rattle.types.specs.Code.{Program};
@@ -18,6 +18,7 @@ ghost use Rattle.step_trees.specs.Still.{Separate, still};
 ghost use Rattle.step_trees.specs.Laws.{ParIn, ThenIn, StepsTo, Commutes, GoesOn, AreTexts};
 ghost use Rattle.step_trees.specs.Laws.{HasLawfulParts, LeafFits, OwnerKeeps, SameStep, EndsBy};
 ghost use Rattle.step_trees.specs.Laws.{OpensBy, MissesBy, Chosen};
+ghost use Rattle.step_trees.specs.Standing.{EndsBeyond, HasEnded, standing};
 
 /// States that no tree of any program is ever stuck. If a run reaches a tree that hasn't ended, the
 /// tree has a leaf that may step. So an `Open` result has such a leaf too.
@@ -144,4 +145,12 @@ pub fn environments_stay_fit()
     ensures owner { (p : Program) → IsSound p → IsAccepted p
         → (input : Contents) (v : Tree) (a : Contents) → Reachable p input v a
         → (t : Tree) (k : Leaf) → ThenIn t k v → OwnerKeeps p t k }
+{}
+
+/// States that if a list of choices ends a run, each list that it begins with leads to its outcome, and
+/// nothing follows; or to a tree in which the next choice names a task that may step.
+pub fn lists_go_on()
+    ensures { (p : Program) (input : List (List ℤ)) (choices further : List ℕ) (o : Outcome)
+        → standing p input (choices ++ further) ≡ HasEnded o
+        → EndsBeyond (standing p input choices) further o }
 {}

@@ -2,11 +2,12 @@
 
 ghost use Rattle.std.specs.Prelude.{◌≡◌};
 ghost use Rattle.types.specs.Trees.{returned as returned_leaf, done as done_leaf};
+ghost use Rattle.step_trees.specs.Standing.{candidates_by, listed};
 ghost use Rattle.step_trees.specs.Translation.{leaf_of};
 
 use crate::rest::RestOfBlock;
 use std::alloc::Global;
-use types::code::Stmt;
+use types::code::{Label, Stmt};
 use types::fault::Fault;
 use types::ids::Slot;
 use types::path::Path;
@@ -96,4 +97,26 @@ pub fn done<'p>(alloc: Global, mut leaf: Leaf<'p>) -> Leaf<'p>
     }
     leaf.rest = Vec::new(alloc);
     leaf
+}
+
+/// A task that may step.
+#[derive(PartialEq, Eq, Debug, Drop)]
+pub struct Candidate {
+    pub path: Path,
+    /// The label of its next statement.
+    pub label: Label,
+}
+
+/// Returns the task of a leaf, if it may step.
+pub fn task_of<'p>(leaf: Leaf<'p>) -> Option<Candidate>
+    ensures { listed result ≡ candidates_by (leaf_of leaf.entry).rest (leaf_of leaf.entry) }
+{
+    let Leaf { mut rest, path, .. } = leaf;
+    match rest.pop() {
+        None => None,
+        Some(next) => Some(Candidate {
+            path,
+            label: next.label(),
+        }),
+    }
 }

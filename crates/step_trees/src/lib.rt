@@ -6,6 +6,7 @@ pub mod explore;
 pub mod laws;
 pub mod leaf;
 pub mod rest;
+pub mod standing;
 pub mod tree;
 pub mod turn;
 pub mod walk;

@@ -5,12 +5,12 @@ ghost use Rattle.sections.specs.Translation.{window as window_of};
 ghost use Rattle.types.specs.Code.{Then};
 ghost use Rattle.types.specs.Translation.{code as code_of, codes as codes_of};
 ghost use Rattle.types.specs.Trees.{append};
-ghost use Rattle.step_trees.specs.Translation.{blocks as statements_of, with_turns, Takes};
+ghost use Rattle.step_trees.specs.Translation.{blocks as statements_of, label_of, with_turns, Takes};
 
 use sections::window::Window;
 use statement_steps::turns::TurnsToCome;
 use std::alloc::{AllocError, Global};
-use types::code::Stmt;
+use types::code::{Label, Stmt};
 
 /// Remaining statements, at least one of them.
 #[derive(Clone, Copy)]
@@ -27,6 +27,18 @@ pub enum NextStep<'p> {
     Statement(&'p Stmt),
     /// A turn of a `parts`.
     Turn(TurnsToCome<'p>),
+}
+
+impl RestOfBlock<'_> {
+    /// Returns the label of what is next in it.
+    pub fn label(&self) -> Label
+        ensures { result ≡ label_of self.now }
+    {
+        match self {
+            RestOfBlock::Block { first, others: _ } => first.label,
+            RestOfBlock::Turns(turns) => turns.label,
+        }
+    }
 }
 
 /// Returns the list of one block, or an empty list if the block is empty.

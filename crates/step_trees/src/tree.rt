@@ -1,6 +1,6 @@
 //! Step trees, and what surrounds a position in one.
 
-ghost use Rattle.std.specs.Prelude.{◌≡◌, ◌<◌, ◌+◌, ◌++◌, ◌∷◌, [], IfOk, OnOk, true};
+ghost use Rattle.std.specs.Prelude.{◌≡◌, ◌<◌, ◌+◌, ◌++◌, ◌∷◌, [], IfOk, OnOk, map, true};
 ghost use Rattle.types.specs.Trees.{all_done, ready as ready_leaves, and_then as then_tree};
 ghost use Rattle.types.specs.Trees.{after_faults, closed as closed_leaf, handling, returned as returned_leaf};
 ghost use Rattle.types.specs.Trees.{Beside};
@@ -11,8 +11,9 @@ ghost use Rattle.step_trees.specs.Found.{IsFound};
 ghost use Rattle.step_trees.specs.Held.{tree_of, inside, within as within_round, IsCounted};
 ghost use Rattle.step_trees.specs.Held.{IsCountedRound, IsLeftOf};
 ghost use Rattle.step_trees.specs.Places.{lefts, ready_left, ready_right, IsRound, Pops};
+ghost use Rattle.step_trees.specs.Standing.{candidate_of, candidates as candidates_in, listed};
 
-use crate::leaf::{Handler, Leaf, Waiting, done, returned};
+use crate::leaf::{Candidate, Handler, Leaf, Waiting, done, returned, task_of};
 use crate::rest::enter;
 use std::alloc::{AllocError, Global};
 use types::fault::Fault;
@@ -249,6 +250,41 @@ impl<'p> Tree<'p> {
                                 faults,
                             });
                         }
+                    }
+                }
+            }
+        }
+    }
+
+    /// Returns the tasks that may step, from left to right.
+    pub fn candidates(mut self, alloc: Global) -> Result<Vec<Candidate>, AllocError>
+        ensures { IfOk result
+            (λ found. map candidate_of found.items ≡ candidates_in (tree_of self.entry)) }
+    {
+        let mut rights = Vec::new(alloc);
+        let mut found = Vec::new(alloc);
+        'leaves: loop {
+            match self {
+                Tree::Beside {
+                    left,
+                    right,
+                    ready: _,
+                    done: _,
+                    size: _,
+                } => {
+                    rights.push(right)?;
+                    self = Box::into_inner(left);
+                }
+                Tree::AndThen {
+                    first,
+                    behind: _,
+                    ready: _,
+                } => self = Box::into_inner(first),
+                Tree::Single(leaf) => {
+                    push_some(&mut found, task_of(leaf))?;
+                    match rights.pop() {
+                        Some(right) => self = Box::into_inner(right),
+                        None => return Ok(found),
                     }
                 }
             }
@@ -586,4 +622,15 @@ fn handled<'p>(alloc: Global, leaf: Leaf<'p>, handler: Handler<'p>) -> Result<Le
     leaf.faults = none;
     enter(&mut leaf.rest, handler.block)?;
     Ok(returned(leaf))
+}
+
+/// Adds a task, if there is one.
+fn push_some(found: &mut Vec<Candidate>, one: Option<Candidate>) -> Result<(), AllocError>
+    ensures { OnOk result (map candidate_of found.new.items
+        ≡ map candidate_of found.old.items ++ listed one) }
+{
+    if let Some(one) = one {
+        found.push(one)?;
+    }
+    Ok(())
 }

@@ -68,6 +68,23 @@ fn raised<'p>(
     }
 }
 
+/// Goes up to the whole tree.
+pub fn rooted<'p>(alloc: Global, round: Round<'p>, tree: Tree<'p>) -> Result<Tree<'p>, AllocError>
+    requires round { IsRound round }
+    requires tree { IsCounted tree }
+    ensures { IfOk result (λ t. AreAlike (tree_of t)
+        (inside round.entry.around.items (tree_of tree.entry))) }
+{
+    let mut round = round;
+    let mut tree = tree;
+    'up: loop {
+        match round.pop() {
+            None => return Ok(tree),
+            Some(around) => tree = around.within(alloc, tree)?,
+        }
+    }
+}
+
 /// Goes up while all leaves are done, so what waits for their end continues. After a spawn, goes up
 /// to all tasks of the spawning task's finish, to keep them balanced.
 pub fn settled<'p>(

@@ -32,8 +32,13 @@ const ROWS: &[(&str, &str)] = &[
     ("test", " write steps nest tasks w0 workers format"),
     (
         "explore",
-        " input set text choices choices-from random arrays html explain color",
+        " input set text choices choices-from random all arrays format html explain color",
     ),
+    (
+        "walk",
+        " input set text steps nest w0 workers seed trace arrays explain color",
+    ),
+    ("inspect", " input set text steps nest"),
     (
         "view",
         " input set text summary by-line svg chrome html upgrade format explain color",

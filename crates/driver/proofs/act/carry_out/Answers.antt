@@ -3,11 +3,12 @@ use Rattle.std.specs.Prelude.{false}
 use Rattle.command_line.specs.Requests.{asked_of, settings}
 use Rattle.std.specs.String.{string_bytes}
 use Rattle.command_words.specs.Orders.{AsText, AsObject, Times, TimesAsObject, Tests, TestsEach, TestsAsObject, Each}
-use Rattle.command_words.specs.Orders.{command_of, order}
+use Rattle.command_words.specs.Orders.{Walks, Explores, Inspects, command_of, order}
 use Rattle.driver.specs.Acts.{in_short}
 use Rattle.driver.specs.Watching.{is_watched, is_watched_by}
 use Rattle.driver.specs.declared.doing.TextOrder.TheVariants.{Answering, Describing, Timing, TimingAsObject}
-use Rattle.driver.proofs.Ordered.{acted, ordered, said_bare, tested_as, told_as}
+use Rattle.driver.specs.declared.doing.TextOrder.TheVariants.{Exploring, Walking}
+use Rattle.driver.proofs.Ordered.{acted, inspected_as, ordered, said_bare, tested_as, told_as}
 use Rattle.driver.proofs.Watched.{reported_watched, watched_as}
 use Rattle.driver.proofs.act.carry_out.Goals as goal
 
@@ -127,3 +128,39 @@ returns-in-Each-clause-watched g c =
     let several = c.in-Each.several in
     watched_as g.T.Watch.Told _ _ (Each several.action (map string_bytes several.files.now) several.telling)
     (order c.args.order) (sym (ap order c.in-Each.is)) _ tt
+
+pub returns-in-Walks-clause-acts : goal.returns-in-Walks-clause-acts
+returns-in-Walks-clause-acts g c =
+    let seed = c.in-Walks.seed in let asked = asked_of c.in-Walks.request in let done = c.read_and_do-done-in-Walks in
+    ordered _ _ _ _ _ _ _ _ _ (Walks seed asked) (order c.args.order) (sym (ap order c.in-Walks.is))
+    (acted _ _ _ _ _ _ _ _ (Walking seed) asked (in_short done.result) _ c.more_on-more-in-Walks.ensures
+    done.ensures.done c.report-in-Walks.ensures)
+
+pub returns-in-Walks-clause-watched : goal.returns-in-Walks-clause-watched
+returns-in-Walks-clause-watched g c =
+    watched_as g.T.Watch.Told _ _ (Walks c.in-Walks.seed (asked_of c.in-Walks.request)) (order c.args.order)
+    (sym (ap order c.in-Walks.is)) _ c.read_and_do-done-in-Walks.ensures.watched
+
+pub returns-in-Explores-clause-acts : goal.returns-in-Explores-clause-acts
+returns-in-Explores-clause-acts g c =
+    let asked = asked_of c.in-Explores.request in let done = c.read_and_do-done-in-Explores in
+    ordered _ _ _ _ _ _ _ _ _ (Explores c.in-Explores.schedules asked) (order c.args.order) (sym (ap order c.in-Explores.is))
+    (acted _ _ _ _ _ _ _ _ (Exploring c.in-Explores.schedules) asked (in_short done.result) _ c.more_on-more-in-Explores.ensures
+    done.ensures.done c.report-in-Explores.ensures)
+
+pub returns-in-Explores-clause-watched : goal.returns-in-Explores-clause-watched
+returns-in-Explores-clause-watched g c =
+    watched_as g.T.Watch.Told _ _ (Explores c.in-Explores.schedules (asked_of c.in-Explores.request)) (order c.args.order)
+    (sym (ap order c.in-Explores.is)) _ c.read_and_do-done-in-Explores.ensures.watched
+
+pub returns-in-Inspects-clause-acts : goal.returns-in-Inspects-clause-acts
+returns-in-Inspects-clause-acts g c =
+    let asked = asked_of c.in-Inspects.request in let done = c.read_and_do-done-in-Inspects in
+    ordered _ _ _ _ _ _ _ _ _ (Inspects asked) (order c.args.order) (sym (ap order c.in-Inspects.is))
+    (inspected_as _ _ _ _ _ _ _ _ asked (in_short done.result) _ c.nothing-more.ensures done.ensures.done
+    c.report-in-Inspects.ensures)
+
+pub returns-in-Inspects-clause-watched : goal.returns-in-Inspects-clause-watched
+returns-in-Inspects-clause-watched g c =
+    watched_as g.T.Watch.Told _ _ (Inspects (asked_of c.in-Inspects.request)) (order c.args.order)
+    (sym (ap order c.in-Inspects.is)) _ c.read_and_do-done-in-Inspects.ensures.watched

@@ -1,10 +1,14 @@
+use Rattle.std.proofs.Common.{refl}
 use Rattle.command_line.specs.Requests.{asked_of, settings as settings_of}
 use Rattle.driver.specs.declared.doing.TextOrder.TheVariants.{Answering, Describing, Timing, TimingAsObject}
+use Rattle.driver.specs.declared.doing.TextOrder.TheVariants.{Exploring, Inspecting, Walking}
 use Rattle.driver.proofs.Acting.{handed_over}
 use Rattle.driver.proofs.Ordered.{does_so}
 use Rattle.driver.proofs.Tried.{times_on}
 use Rattle.driver.proofs.Watched.{handed_watched, watched_so}
 use Rattle.driver.specs.Watching.{is_watched_by}
+use Rattle.command_line.specs.declared.request.Action.TheVariants.{Answer}
+use Rattle.command_line.specs.declared.request.Command.TheVariants.{Run}
 use Rattle.driver.proofs.doing.do_with.Goals as goal
 
 pub returns-in-Answering-clause-done : goal.returns-in-Answering-clause-done
@@ -53,3 +57,38 @@ pub returns-in-TimingAsObject-clause-watched : goal.returns-in-TimingAsObject-cl
 returns-in-TimingAsObject-clause-watched g c =
     watched_so g.T.Watch.Told _ _ c.args.doing TimingAsObject c.in-TimingAsObject.is (asked_of c.args.loaded.request)
     c.time_as_object.result tt
+
+pub returns-in-Walking-clause-done : goal.returns-in-Walking-clause-done
+returns-in-Walking-clause-done g c =
+    let request = c.args.loaded.request in let text = c.args.loaded.text.now in
+    let ran = c.run_as_tasks-done in
+    does_so c.args.doing (Walking c.in-Walking.seed) c.in-Walking.is (asked_of request) text _ _ _ _
+    c.handed_on-in-Walking.result
+    (handed_over (Answer Run) request.file.now (settings_of request.settings) text _ _ _ _ _ ran.result
+    c.handed_on-in-Walking.result (record { done = ran.ensures.done; leaves = ran.ensures.trace })
+    c.handed_on-in-Walking.ensures)
+
+pub returns-in-Walking-clause-watched : goal.returns-in-Walking-clause-watched
+returns-in-Walking-clause-watched g c =
+    watched_so g.T.Watch.Told _ _ c.args.doing (Walking c.in-Walking.seed) c.in-Walking.is (asked_of c.args.loaded.request)
+    c.handed_on-in-Walking.result refl
+
+pub returns-in-Exploring-clause-done : goal.returns-in-Exploring-clause-done
+returns-in-Exploring-clause-done g c =
+    does_so c.args.doing (Exploring c.in-Exploring.schedules) c.in-Exploring.is (asked_of c.args.loaded.request) c.args.loaded.text.now _ _ _ _
+    c.schedules_told.result c.schedules_told.ensures
+
+pub returns-in-Exploring-clause-watched : goal.returns-in-Exploring-clause-watched
+returns-in-Exploring-clause-watched g c =
+    watched_so g.T.Watch.Told _ _ c.args.doing (Exploring c.in-Exploring.schedules) c.in-Exploring.is (asked_of c.args.loaded.request)
+    c.schedules_told.result refl
+
+pub returns-in-Inspecting-clause-done : goal.returns-in-Inspecting-clause-done
+returns-in-Inspecting-clause-done g c =
+    does_so c.args.doing Inspecting c.in-Inspecting.is (asked_of c.args.loaded.request) c.args.loaded.text.now _ _ _ _
+    c.inspected_told.result c.inspected_told.ensures
+
+pub returns-in-Inspecting-clause-watched : goal.returns-in-Inspecting-clause-watched
+returns-in-Inspecting-clause-watched g c =
+    watched_so g.T.Watch.Told _ _ c.args.doing Inspecting c.in-Inspecting.is (asked_of c.args.loaded.request)
+    c.inspected_told.result refl

@@ -1,19 +1,18 @@
-use Rattle.std.proofs.Common.{◌≡◌, ap, ◌∙◌}
-use Rattle.types.specs.Contents.{held_by}
-use Rattle.types.specs.Translation.{program, input}
-use Rattle.types.specs.TreeSteps.{first_tree}
+use Rattle.std.proofs.Common.{subst, sym}
+use Rattle.std.proofs.lemmas.Result.{IfOk-weaker}
+use Rattle.types.specs.Contents.{FitsArrays}
+use Rattle.types.specs.Translation.{input}
 use Rattle.types.specs.Typed.{code_of}
-use Rattle.step_trees.proofs.Exploring.{held_first}
+use Rattle.types.specs.declared.typed.Typed.{Typed}
+use Rattle.step_trees.specs.Exploring.{Begins}
 use Rattle.step_trees.proofs.explore.begun.Goals as goal
+
+pub begun_of-requires : goal.begun_of-requires
+begun_of-requires c =
+    subst (λ (t : Typed). FitsArrays (code_of t).arrays (input c.args.input.now)) (sym c.typed.ensures.field) c.requires
 
 pub returns : goal.returns
 returns c =
-    let p = code_of c.args.accepted.now.typed in
-    let same : program c.code.result.now ≡ p = c.code.ensures.code ∙ ap code_of c.typed.ensures.field in
-    let start = c.in_ok-place.ensures in
-    record {
-      held = held_first _ _ p (input c.args.input.now) same start.place start.tree c.in_ok-store.ensures c.requires;
-      code = same;
-      tree = start.tree ∙ ap first_tree same;
-      store = ap held_by c.in_ok-store.ensures;
-    }
+    IfOk-weaker c.begun_of.result _ _
+    (λ r begins. subst (λ (t : Typed). Begins (code_of t) (input c.args.input.now) r) c.typed.ensures.field begins)
+    c.begun_of.ensures
