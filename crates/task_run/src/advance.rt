@@ -25,6 +25,7 @@ use crate::frame::{Outer, TaskFrame};
 use crate::memory::TaskMemory;
 use crate::needed::Needed;
 use crate::result::{Listed, Settled, TaskResult};
+use crate::rooms::Rooms;
 use crate::run::Run;
 use crate::turn::{Done, Paused, Step, Turn};
 use holdings::error::HoldError;
@@ -51,6 +52,7 @@ impl<'p> Run<'p> {
         &mut self,
         needed: &N,
         code: &ProgramCode<'p>,
+        rooms: &mut Rooms<'p>,
     ) -> Result<Step<'p>, HoldError>
         requires code { IsCodeOfProgram (program_of self.old.plan.program.now) code.now }
         requires can { (r : AnyRun) → GoesOn (N.needs needed.now) self.old r
@@ -63,7 +65,7 @@ impl<'p> Run<'p> {
         'turns: loop {
             match self.next_piece(code) {
                 Some((number, rest)) => self.do_at_once(code, number, rest)?,
-                None => match self.step(needed)? {
+                None => match self.step(needed, rooms)? {
                     Step::Did(done) => match done {
                         Done::Gone => {}
                         Done::Exceeded => {}
@@ -82,14 +84,19 @@ impl<'p> Run<'p> {
         ensures refused { IfErr result (λ e. e ≡ OutOfMemory) }
     {
         let mut run = self;
-        match run.step(needed)? {
+        let mut rooms = Rooms::new(run.plan.alloc);
+        match run.step(needed, &mut rooms)? {
             Step::Did(done) => Ok(turned(run, done)),
-            Step::AtEnd => Ok(run.end()?),
+            Step::AtEnd => Ok(run.end(&mut rooms)?),
         }
     }
 
     /// Takes one turn in place. At the end of a finish, or at its own end, the run is unchanged.
-    pub fn step<N: Needed>(&mut self, needed: &N) -> Result<Step<'p>, HoldError>
+    pub fn step<N: Needed>(
+        &mut self,
+        needed: &N,
+        rooms: &mut Rooms<'p>,
+    ) -> Result<Step<'p>, HoldError>
         requires { CanTurn (N.needs needed.now) (N.IsAsync needed.now) self.old }
         ensures step { IfOk result (λ s. IsStep (N.needs needed.entry.now) self.old s self.new) }
         ensures refused { IfErr result (λ e. e ≡ OutOfMemory) }
@@ -99,12 +106,12 @@ impl<'p> Run<'p> {
             Some(top) => match top {
                 TaskFrame::Rest(block) => match block.split_first() {
                     None => {
-                        self.take_off()?;
+                        self.take_off(rooms)?;
                         Ok(Step::Did(Done::Gone))
                     }
                     Some((stmt, rest)) => {
                         *block = rest;
-                        let done = self.first(needed, stmt)?;
+                        let done = self.first(needed, stmt, rooms)?;
                         Ok(Step::Did(done))
                     }
                 },
@@ -133,7 +140,7 @@ impl<'p> Run<'p> {
                     Ok(Step::Did(Done::Gone))
                 }
                 TaskFrame::EndCall { .. } => {
-                    self.take_off()?;
+                    self.take_off(rooms)?;
                     Ok(Step::Did(Done::Gone))
                 }
             },
@@ -142,7 +149,12 @@ impl<'p> Run<'p> {
 
     /// Runs the first statement of a block, whose rest is the top frame, if the flow is on and a
     /// step is left.
-    fn first<N: Needed>(&mut self, needed: &N, stmt: &'p Stmt) -> Result<Done<'p>, HoldError>
+    fn first<N: Needed>(
+        &mut self,
+        needed: &N,
+        stmt: &'p Stmt,
+        rooms: &mut Rooms<'p>,
+    ) -> Result<Done<'p>, HoldError>
         requires few { self.old.thread.spawned + self.old.thread.steps ≤ self.old.plan.budget.steps }
         requires can { CanAct (N.needs needed.now) (N.IsAsync needed.now) stmt.now.label
             (code_of stmt.now.kind) self.old }
@@ -155,7 +167,7 @@ impl<'p> Run<'p> {
             return Ok(Done::Gone);
         }
         if self.thread.takes_step() {
-            self.act(needed, stmt)
+            self.act(needed, stmt, rooms)
         } else {
             Ok(Done::Exceeded)
         }
@@ -215,7 +227,12 @@ impl<'p> Run<'p> {
 
     /// Runs a statement whose step has been taken.
     #[inline(always)]
-    fn act<N: Needed>(&mut self, needed: &N, stmt: &'p Stmt) -> Result<Done<'p>, HoldError>
+    fn act<N: Needed>(
+        &mut self,
+        needed: &N,
+        stmt: &'p Stmt,
+        rooms: &mut Rooms<'p>,
+    ) -> Result<Done<'p>, HoldError>
         requires room { HasRoom self.old }
         requires can { CanAct (N.needs needed.now) (N.IsAsync needed.now) stmt.now.label
             (code_of stmt.now.kind) self.old }
@@ -251,10 +268,10 @@ impl<'p> Run<'p> {
                 values,
                 sections,
             } => {
-                self.call(label, *procedure, values, sections)?;
+                self.call(label, *procedure, values, sections, rooms)?;
                 Ok(Done::Gone)
             }
-            StmtKind::Async { body } => self.spawn(needed, label, body),
+            StmtKind::Async { body } => self.spawn(needed, label, body, rooms),
             StmtKind::Finish { body } => {
                 self.enter(body)?;
                 Ok(Done::Entered)
@@ -277,6 +294,7 @@ impl<'p> Run<'p> {
         needed: &N,
         label: Label,
         body: &'p [Stmt],
+        rooms: &mut Rooms<'p>,
     ) -> Result<Done<'p>, HoldError>
         requires room { HasRoom self.old }
         requires can { CanAct (N.needs needed.now) (N.IsAsync needed.now) label
@@ -294,8 +312,8 @@ impl<'p> Run<'p> {
         let windows = environment.windows_of(alloc, needed.writes(label, body))?;
         let store = &mut self.thread.store;
         let holdings = store.part_for(alloc, environment, &windows, needed.reads(label, body))?;
-        let start = self.start(body, holdings)?;
-        let start = Box::new(self.plan.alloc, start)?;
+        let start = self.start(body, holdings, rooms)?;
+        let start = rooms.boxed(start)?;
         let number = ChildNumber::after(self.thread.spawned);
         let listed = Listed {
             path: self.thread.path.child(number)?,
@@ -309,14 +327,14 @@ impl<'p> Run<'p> {
     }
 
     /// Takes the turn of a run at the end of a finish, or at its own end.
-    pub fn end(self) -> Result<Turn<'p>, AllocError>
+    pub fn end(self, rooms: &mut Rooms<'p>) -> Result<Turn<'p>, AllocError>
         requires { IsAtEnd self }
         ensures turn { IfOk result (λ t. (needs : Codes → Needs) → IsTurn needs self.entry t) }
         ensures ends { IfOk result IsEnding }
     {
         let mut run = self;
         match run.frames.pop() {
-            None => Ok(Turn::Ended(run.result())),
+            None => Ok(Turn::Ended(run.result(rooms))),
             Some(frame) => match frame {
                 TaskFrame::EndFinish(outer) => {
                     let (paused, result) = run.pause(outer)?;
@@ -333,12 +351,13 @@ impl<'p> Run<'p> {
 
     /// Returns what the task has made since its innermost open finish began, or since its own
     /// start.
-    fn result(self) -> TaskResult
+    fn result(self, rooms: &mut Rooms<'p>) -> TaskResult
         ensures { (fs : List (Left Own)) (x : Own) → Shows self.entry fs x
             → task_result result ≡ result_of (with_own x (state_of self.entry.thread)) }
     {
         let Run {
             thread,
+            frames,
             pending,
             ..
         } = self;
@@ -348,9 +367,12 @@ impl<'p> Run<'p> {
             lines,
             faults,
             path,
+            environment,
             ..
         } = thread;
         let TaskMemory { holdings } = store;
+        rooms.keep_frames(frames);
+        rooms.keep_environment(environment);
         TaskResult {
             path,
             stopped: is_stopped(flow),
@@ -384,7 +406,7 @@ impl<'p> Run<'p> {
             environment,
             steps,
             nest,
-            spare,
+            ..
         } = thread;
         let TaskMemory { holdings } = store;
         let result = TaskResult {
@@ -402,7 +424,6 @@ impl<'p> Run<'p> {
             environment,
             steps,
             nest,
-            spare,
             frames,
             outer,
         };
@@ -437,7 +458,7 @@ impl<'p> Paused<'p> {
             environment: self.environment,
             steps: self.steps,
             nest: self.nest,
-            spare: self.spare,
+            spare: Vec::new(self.plan.alloc),
         };
         Ok(Run {
             plan: self.plan,

@@ -18,6 +18,7 @@ use crate::copy::faults as copied_faults;
 use crate::frame::{Outer, TaskFrame};
 use crate::memory::TaskMemory;
 use crate::result::Listed;
+use crate::rooms::Rooms;
 use crate::start::Start;
 use holdings::holdings::Holdings;
 use sections::id::SectionId;
@@ -25,7 +26,7 @@ use sections::window::Window;
 use statement_steps::flow::Flow;
 use statement_steps::thread::{Plan, Thread};
 use statement_steps::turns::TurnsToCome;
-use std::alloc::{AllocError, Global};
+use std::alloc::AllocError;
 use types::child_number::ChildNumber;
 use types::code::{Label, Number, Pieces, Procedure, Stmt, Truth};
 use types::fault::Fault;
@@ -43,20 +44,20 @@ pub struct Run<'p> {
     pub pending: Vec<Listed>,
 }
 
-/// The number of frames for which a run has room at its start. Few tasks have more, and their room
-/// then grows.
-const FIRST_FRAMES: usize = 12;
-
 impl<'p> Run<'p> {
     ghost use Rattle.task_run.specs.RunTurns.{Acts, Turns, taken_off};
 
     /// Creates the run of a task at its start.
-    pub fn begin(plan: Plan<'p>, start: Start<'p>) -> Result<Run<'p>, AllocError>
+    pub fn begin(
+        plan: Plan<'p>,
+        start: Start<'p>,
+        rooms: &mut Rooms<'p>,
+    ) -> Result<Run<'p>, AllocError>
         ensures begun { IfOk result (λ r. IsAt r (begun plan.entry.budget.steps (start_of start.entry))) }
         ensures plan { IfOk result (λ r. r.plan ≡ plan.entry) }
         ensures nest { IfOk result (λ r. r.thread.nest ≡ start.entry.nest) }
     {
-        let mut frames = Vec::with_capacity(plan.alloc, FIRST_FRAMES)?;
+        let mut frames = rooms.frames()?;
         frames.push(TaskFrame::Rest(start.body))?;
         let thread = Thread {
             flow: Flow::On,
@@ -81,7 +82,7 @@ impl<'p> Run<'p> {
     }
 
     /// Takes the top frame off. This frame does nothing, or restores the caller's environment.
-    pub(crate) fn take_off(&mut self) -> Result<(), AllocError>
+    pub(crate) fn take_off(&mut self, rooms: &mut Rooms<'p>) -> Result<(), AllocError>
         ensures { OnOk result (Turns taken_off self.old self.new) }
     {
         match self.frames.pop() {
@@ -89,7 +90,7 @@ impl<'p> Run<'p> {
             Some(frame) => match frame {
                 TaskFrame::EndCall { environment } => {
                     let callee = std::mem::replace(&mut self.thread.environment, environment);
-                    self.thread.spare.push(callee)?;
+                    rooms.keep_environment(callee);
                     Ok(())
                 }
                 TaskFrame::Rest(_)
@@ -216,12 +217,13 @@ impl<'p> Run<'p> {
         procedure: ProcedureId,
         values: &[Number],
         sections: &[SectionId],
+        rooms: &mut Rooms<'p>,
     ) -> Result<(), AllocError>
         ensures { OnOk result (Acts label (Call procedure.number
             (map number_of values.now) (map section_of sections.now)) self.old self.new) }
     {
         let (procedure, body) = procedure_of(self.plan, procedure);
-        let room = room_for(&mut self.thread.spare, self.plan.alloc, procedure)?;
+        let room = rooms.room_for(procedure)?;
         let Environment { scalars, windows } = room;
         let values = match self.thread.numbers(scalars, values)? {
             Err(kind) => return self.thread.fault(self.plan, label, kind),
@@ -239,6 +241,7 @@ impl<'p> Run<'p> {
         &self,
         body: &'p [Stmt],
         holdings: Holdings,
+        rooms: &mut Rooms<'p>,
     ) -> Result<Start<'p>, AllocError>
         requires few { self.now.thread.spawned < 1000000000 }
         requires nest { 0 < self.now.thread.nest }
@@ -251,7 +254,7 @@ impl<'p> Run<'p> {
           path = self.now.thread.path.turns.items ++ (self.now.thread.spawned + 1) ∷ [];
         }) }
     {
-        let environment = self.thread.environment.copied(self.plan.alloc)?;
+        let environment = rooms.copied(&self.thread.environment)?;
         let number = ChildNumber::after(self.thread.spawned);
         let path = self.thread.path.child(number)?;
         Ok(Start {
@@ -318,23 +321,6 @@ impl<'p> Run<'p> {
                 Ok(())
             }
         }
-    }
-}
-
-/// Returns an environment whose allocations can be reused, or a new one with room for all slots and
-/// sections of a procedure, so it grows in no step.
-#[inline(always)]
-fn room_for(
-    spare: &mut Vec<Environment>,
-    alloc: Global,
-    procedure: &Procedure,
-) -> Result<Environment, AllocError> {
-    match spare.pop() {
-        Some(environment) => Ok(environment),
-        None => Ok(Environment {
-            scalars: Vec::with_capacity(alloc, procedure.slots)?,
-            windows: Vec::with_capacity(alloc, procedure.sections.len())?,
-        }),
     }
 }
 

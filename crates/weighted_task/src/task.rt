@@ -4,6 +4,7 @@ ghost use Rattle.std.specs.Prelude.{◌≡◌, IfErr, IfOk, IfSome};
 ghost use Rattle.task_run.specs.Jobs.{IsJob};
 ghost use Rattle.weighted_task.specs.Tasks.{IsBegun, IsChild, IsFirst, IsRoot, IsRootBody, IsTask};
 
+use crate::rooms::TaskRooms;
 use crate::stake::{ScopeMark, Share, Stake};
 use std::alloc::AllocError;
 use task_run::job::Job;
@@ -88,7 +89,7 @@ impl<'p> Task<'p> {
 
 impl<'p> Child<'p> {
     /// Returns the task, before its first turn.
-    pub fn begin(self) -> Result<Task<'p>, AllocError>
+    pub fn begin(self, rooms: &mut TaskRooms<'p>) -> Result<Task<'p>, AllocError>
         requires child { IsChild self }
         ensures task { IfOk result (IsBegun self.entry) }
     {
@@ -98,8 +99,9 @@ impl<'p> Child<'p> {
             scope,
             share,
         } = self;
-        let run = Run::begin(job.plan(), Box::into_inner(start))?;
-        let body = first_body(job, run, scope)?;
+        let start = rooms.runs.take_out(start);
+        let run = Run::begin(job.plan(), start, &mut rooms.runs)?;
+        let body = first_body(job, run, scope, rooms)?;
         Ok(Task { body, share })
     }
 }
@@ -109,16 +111,51 @@ fn root_body<'p>(job: Job<'p>) -> Result<Box<Body<'p>>, AllocError>
     requires { IsJob job }
     ensures { IfOk result (λ b. IsRootBody job.entry b.value) }
 {
-    let run = Run::begin(job.plan(), job.root()?)?;
+    let mut rooms = TaskRooms::new(job.alloc);
+    let run = Run::begin(job.plan(), job.root()?, &mut rooms.runs)?;
     let scope = ScopeMark {
         depth: 0,
         number: 0,
     };
-    first_body(job, run, scope)
+    first_body(job, run, scope, &mut rooms)
 }
 
 /// Returns the body of a task that has started no finish.
-fn first_body<'p>(job: Job<'p>, run: Run<'p>, scope: ScopeMark) -> Result<Box<Body<'p>>, AllocError>
+fn first_body<'p>(
+    job: Job<'p>,
+    run: Run<'p>,
+    scope: ScopeMark,
+    rooms: &mut TaskRooms<'p>,
+) -> Result<Box<Body<'p>>, AllocError>
+    ensures { IfOk result (λ b. IsFirst job.entry run.entry scope b.value) }
+{
+    match rooms.body() {
+        Some(room) => Ok(first_body_in(room, job, run, scope)),
+        None => new_body(job, run, scope),
+    }
+}
+
+/// Returns such a body in the box of one that has ended. The run is moved once.
+fn first_body_in<'p>(
+    room: Box<Body<'p>>,
+    job: Job<'p>,
+    run: Run<'p>,
+    scope: ScopeMark,
+) -> Box<Body<'p>>
+    ensures { IsFirst job.entry run.entry scope result.value }
+{
+    let mut body = room;
+    body.job = job;
+    body.run = Some(run);
+    body.scope = scope;
+    body.outer.clear();
+    body.opened = 0;
+    body
+}
+
+/// Returns such a body in a new box.
+#[inline(never)]
+fn new_body<'p>(job: Job<'p>, run: Run<'p>, scope: ScopeMark) -> Result<Box<Body<'p>>, AllocError>
     ensures { IfOk result (λ b. IsFirst job.entry run.entry scope b.value) }
 {
     let body = Body {

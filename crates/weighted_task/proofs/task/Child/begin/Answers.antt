@@ -14,7 +14,7 @@ returns c =
     let first = c.in_ok-body.ensures in
     let ok = c.requires.child in
     let begins = c.in_ok-run.ensures in
-    let unboxed = c.into_inner.ensures in
+    let unboxed = c.take_out-start.ensures in
     let at =
     subst (λ (n : _). IsAt run (begun n (start child.start.value))) (ap (λ (z : _). z.steps) c.plan.ensures.budget)
     (subst (λ (s : Start). IsAt run (begun c.plan.result.budget.steps (start s))) unboxed begins.begun) in
