@@ -49,8 +49,7 @@ impl<'p> TaskProgress<'p> {
         match self {
             TaskProgress::Starts(start) => {
                 let copy = start.clone(job.alloc)?;
-                let mut rooms = Rooms::new(job.alloc);
-                let run = Run::begin(job.plan(), copy, &mut rooms)?;
+                let run = Run::begin(job.plan(), copy)?;
                 let known = ahead(job, run)?;
                 Ok(Some(known))
             }
@@ -78,8 +77,7 @@ impl<'p> TaskProgress<'p> {
     {
         match self {
             TaskProgress::Starts(start) => {
-                let mut rooms = Rooms::new(job.alloc);
-                let run = Run::begin(job.plan(), start, &mut rooms)?;
+                let run = Run::begin(job.plan(), start)?;
                 ahead(job, run)
             }
             TaskProgress::Runs(run) => ahead(job, run),

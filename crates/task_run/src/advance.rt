@@ -25,10 +25,11 @@ use crate::frame::{Outer, TaskFrame};
 use crate::memory::TaskMemory;
 use crate::needed::Needed;
 use crate::result::{Listed, Settled, TaskResult};
-use crate::rooms::Rooms;
+use crate::rooms::{Rooms, no_environment};
 use crate::run::Run;
 use crate::turn::{Done, Paused, Step, Turn};
 use holdings::error::HoldError;
+use holdings::holdings::Holdings;
 use plain_code::pieces::ProgramCode;
 use sections::window::Window;
 use statement_steps::flow::Flow;
@@ -38,6 +39,10 @@ use std::alloc::AllocError;
 use types::child_number::ChildNumber;
 use types::code::{Label, Stmt, StmtKind, Truth};
 use types::fault::Fault;
+use types::path::Path;
+
+/// The largest room for frames that an ended run keeps.
+const MOST_FRAMES: usize = 192;
 
 impl<'p> Run<'p> {
     ghost use Rattle.task_run.specs.RunTurns.{CanAct, CanTurn, DidAct, DidNext, DidTurn, GoesOn, HasRoom};
@@ -326,18 +331,22 @@ impl<'p> Run<'p> {
         Ok(Done::Spawned(start))
     }
 
-    /// Takes the turn of a run at the end of a finish, or at its own end.
-    pub fn end(self, rooms: &mut Rooms<'p>) -> Result<Turn<'p>, AllocError>
-        requires { IsAtEnd self }
-        ensures turn { IfOk result (λ t. (needs : Codes → Needs) → IsTurn needs self.entry t) }
+    /// Takes the turn of a run at the end of a finish, or at its own end, in place. What the turn
+    /// returns is moved out of the run. What is left is good only for `begin_again`.
+    pub fn end(&mut self, rooms: &mut Rooms<'p>) -> Result<Turn<'p>, AllocError>
+        requires { IsAtEnd self.old }
+        ensures turn { IfOk result (λ t. (needs : Codes → Needs) → IsTurn needs self.old t) }
         ensures ends { IfOk result IsEnding }
     {
-        let mut run = self;
-        match run.frames.pop() {
-            None => Ok(Turn::Ended(run.result(rooms))),
+        match self.frames.pop() {
+            None => {
+                let made = self.result();
+                self.leave(rooms);
+                Ok(Turn::Ended(made))
+            }
             Some(frame) => match frame {
                 TaskFrame::EndFinish(outer) => {
-                    let (paused, result) = run.pause(outer)?;
+                    let (paused, result) = self.pause(outer)?;
                     Ok(Turn::EndsFinish(paused, result))
                 }
                 TaskFrame::Rest(_)
@@ -349,85 +358,63 @@ impl<'p> Run<'p> {
         }
     }
 
-    /// Returns what the task has made since its innermost open finish began, or since its own
+    /// Moves out what the task has made since its innermost open finish began, or since its own
     /// start.
-    fn result(self, rooms: &mut Rooms<'p>) -> TaskResult
-        ensures { (fs : List (Left Own)) (x : Own) → Shows self.entry fs x
-            → task_result result ≡ result_of (with_own x (state_of self.entry.thread)) }
+    fn result(&mut self) -> TaskResult
+        ensures { (fs : List (Left Own)) (x : Own) → Shows self.old fs x
+            → task_result result ≡ result_of (with_own x (state_of self.old.thread)) }
     {
-        let Run {
-            thread,
-            frames,
-            pending,
-            ..
-        } = self;
-        let Thread {
-            flow,
-            store,
-            lines,
-            faults,
-            path,
-            environment,
-            ..
-        } = thread;
-        let TaskMemory { holdings } = store;
-        rooms.keep_frames(frames);
-        rooms.keep_environment(environment);
+        let alloc = self.plan.alloc;
+        let stopped = is_stopped(self.thread.flow);
+        let path = std::mem::replace(&mut self.thread.path, Path::root(alloc));
+        let holdings = std::mem::replace(&mut self.thread.store.holdings, Holdings::none(alloc));
+        let lines = std::mem::replace(&mut self.thread.lines, Vec::new(alloc));
+        let faults = std::mem::replace(&mut self.thread.faults, Vec::new(alloc));
+        let children = std::mem::replace(&mut self.pending, Vec::new(alloc));
         TaskResult {
             path,
-            stopped: is_stopped(flow),
+            stopped,
             holdings,
             lines,
             faults,
-            children: pending,
+            children,
         }
     }
 
+    /// Leaves its environment to the next tasks. The room of its frames stays, unless a deep
+    /// recursion has made it large.
+    fn leave(&mut self, rooms: &mut Rooms<'p>) {
+        let alloc = self.plan.alloc;
+        if self.frames.capacity() > MOST_FRAMES {
+            self.frames = Vec::new(alloc);
+        }
+        let environment = std::mem::replace(&mut self.thread.environment, no_environment(alloc));
+        rooms.keep_environment(environment);
+    }
+
     /// Splits the run at the end of a finish into the waiting run and its result.
-    fn pause(self, outer: Outer) -> Result<(Paused<'p>, TaskResult), AllocError>
+    fn pause(&mut self, outer: Outer) -> Result<(Paused<'p>, TaskResult), AllocError>
         ensures { IfOk result (λ t. (before : State Own) (fs : List (Left Own)) (x : Own)
-            → IsEnd outer before → Shows self.entry fs x
-            → WaitsAs self.entry fs before (with_own x (state_of self.entry.thread))
+            → IsEnd outer before → Shows self.old fs x
+            → WaitsAs self.old fs before (with_own x (state_of self.old.thread))
             (EndsFinish t.0 t.1)) }
     {
-        let Run {
-            plan,
-            thread,
-            frames,
-            pending,
-        } = self;
-        let Thread {
-            flow,
-            store,
-            lines,
-            faults,
-            path,
-            spawned,
-            environment,
-            steps,
-            nest,
-            ..
-        } = thread;
-        let TaskMemory { holdings } = store;
-        let result = TaskResult {
-            path: path.copied(plan.alloc)?,
-            stopped: is_stopped(flow),
-            holdings,
-            lines,
-            faults,
-            children: pending,
-        };
+        let alloc = self.plan.alloc;
+        let path = self.thread.path.copied(alloc)?;
+        let frames = std::mem::replace(&mut self.frames, Vec::new(alloc));
+        let environment = std::mem::replace(&mut self.thread.environment, no_environment(alloc));
         let paused = Paused {
-            plan,
+            plan: self.plan,
             path,
-            spawned,
+            spawned: self.thread.spawned,
             environment,
-            steps,
-            nest,
+            steps: self.thread.steps,
+            nest: self.thread.nest,
             frames,
             outer,
         };
-        Ok((paused, result))
+        let made = self.result();
+        Ok((paused, made))
     }
 }
 

@@ -1,9 +1,8 @@
 //! The memory of tasks that have ended, for those that start.
 
-ghost use Rattle.std.specs.Prelude.{◌≡◌, [], IfOk};
+ghost use Rattle.std.specs.Prelude.{◌≡◌, IfOk};
 ghost use Rattle.types.specs.Translation.{environment as environment_of};
 
-use crate::frame::TaskFrame;
 use crate::start::Start;
 use holdings::holdings::Holdings;
 use std::alloc::{AllocError, Global};
@@ -11,22 +10,14 @@ use types::code::Procedure;
 use types::path::Path;
 use types::value::Environment;
 
-/// The number of lists, environments and boxes that are kept, each.
+/// The number of environments and boxes that are kept, each.
 const MOST: usize = 64;
-
-/// The number of frames for which a run has room at its start. Few tasks have more, and their room
-/// then grows.
-const FIRST_FRAMES: usize = 12;
-
-/// The largest room for frames that is kept. A deep recursion gives its room back.
-const MOST_FRAMES: usize = 192;
 
 /// What tasks that have ended leave to the next ones of the same worker. Only its room is used:
 /// what it contains is never read.
 #[derive(Drop)]
 pub struct Rooms<'p> {
     alloc: Global,
-    frames: Vec<Vec<TaskFrame<'p>>>,
     environments: Vec<Environment>,
     starts: Vec<Box<Start<'p>>>,
 }
@@ -36,27 +27,12 @@ impl<'p> Rooms<'p> {
     pub fn new(alloc: Global) -> Rooms<'p> {
         Rooms {
             alloc,
-            frames: Vec::new(alloc),
             environments: Vec::new(alloc),
             starts: Vec::new(alloc),
         }
     }
 
     // ---- what a task starts with
-
-    /// Returns an empty list of frames.
-    pub(crate) fn frames(&mut self) -> Result<Vec<TaskFrame<'p>>, AllocError>
-        ensures { IfOk result (λ v. v.items ≡ []) }
-    {
-        match self.frames.pop() {
-            Some(frames) => {
-                let mut frames = frames;
-                frames.clear();
-                Ok(frames)
-            }
-            None => Ok(Vec::with_capacity(self.alloc, FIRST_FRAMES)?),
-        }
-    }
 
     /// Returns a copy of an environment.
     pub(crate) fn copied(&mut self, environment: &Environment) -> Result<Environment, AllocError>
@@ -97,13 +73,6 @@ impl<'p> Rooms<'p> {
 
     // ---- what it leaves
 
-    /// Keeps a list of frames.
-    pub(crate) fn keep_frames(&mut self, frames: Vec<TaskFrame<'p>>) {
-        if frames.capacity() <= MOST_FRAMES {
-            keep(&mut self.frames, frames);
-        }
-    }
-
     /// Keeps an environment.
     #[inline(always)]
     pub(crate) fn keep_environment(&mut self, environment: Environment) {
@@ -136,14 +105,19 @@ fn copied_into(environment: &Environment, room: Environment) -> Result<Environme
     Ok(Environment { scalars, windows })
 }
 
+/// Returns an environment without memory.
+pub(crate) fn no_environment(alloc: Global) -> Environment {
+    Environment {
+        scalars: Vec::new(alloc),
+        windows: Vec::new(alloc),
+    }
+}
+
 /// Returns a start of no task, for an empty box. It has no memory.
 fn nothing<'p>(alloc: Global) -> Start<'p> {
     Start {
         body: &[],
-        environment: Environment {
-            scalars: Vec::new(alloc),
-            windows: Vec::new(alloc),
-        },
+        environment: no_environment(alloc),
         holdings: Holdings::none(alloc),
         nest: 0,
         path: Path::root(alloc),

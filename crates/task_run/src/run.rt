@@ -44,20 +44,20 @@ pub struct Run<'p> {
     pub pending: Vec<Listed>,
 }
 
+/// The number of frames for which a run has room at its start. Few tasks have more, and their room
+/// then grows.
+const FIRST_FRAMES: usize = 12;
+
 impl<'p> Run<'p> {
     ghost use Rattle.task_run.specs.RunTurns.{Acts, Turns, taken_off};
 
     /// Creates the run of a task at its start.
-    pub fn begin(
-        plan: Plan<'p>,
-        start: Start<'p>,
-        rooms: &mut Rooms<'p>,
-    ) -> Result<Run<'p>, AllocError>
+    pub fn begin(plan: Plan<'p>, start: Start<'p>) -> Result<Run<'p>, AllocError>
         ensures begun { IfOk result (λ r. IsAt r (begun plan.entry.budget.steps (start_of start.entry))) }
         ensures plan { IfOk result (λ r. r.plan ≡ plan.entry) }
         ensures nest { IfOk result (λ r. r.thread.nest ≡ start.entry.nest) }
     {
-        let mut frames = rooms.frames()?;
+        let mut frames = Vec::with_capacity(plan.alloc, FIRST_FRAMES)?;
         frames.push(TaskFrame::Rest(start.body))?;
         let thread = Thread {
             flow: Flow::On,
@@ -79,6 +79,31 @@ impl<'p> Run<'p> {
             frames,
             pending: Vec::new(plan.alloc),
         })
+    }
+
+    /// Makes a run that has ended the run of another task, at its start. Nothing of the old task is
+    /// left but the room of its frames.
+    pub fn begin_again(&mut self, plan: Plan<'p>, start: Start<'p>) -> Result<(), AllocError>
+        ensures begun { OnOk result (IsAt self.new
+            (begun plan.entry.budget.steps (start_of start.entry))) }
+        ensures plan { OnOk result (self.new.plan ≡ plan.entry) }
+        ensures nest { OnOk result (self.new.thread.nest ≡ start.entry.nest) }
+    {
+        self.frames.clear();
+        self.frames.reserve(FIRST_FRAMES)?;
+        self.frames.push(TaskFrame::Rest(start.body))?;
+        self.pending.clear();
+        self.thread.lines.clear();
+        self.thread.faults.clear();
+        self.plan = plan;
+        self.thread.flow = Flow::On;
+        self.thread.store.holdings = start.holdings;
+        self.thread.path = start.path;
+        self.thread.spawned = 0;
+        self.thread.environment = start.environment;
+        self.thread.steps = plan.budget.steps;
+        self.thread.nest = start.nest;
+        Ok(())
     }
 
     /// Takes the top frame off. This frame does nothing, or restores the caller's environment.

@@ -165,7 +165,7 @@ fn at_end<'p>(
         ≡ share.weight + held body.entry.value.outer.items) }
 {
     let mut body = body;
-    let Some(run) = body.run.take() else {
+    let Some(run) = &mut body.run else {
         unreachable!()
     };
     match run.end(&mut rooms.runs)? {

@@ -1,8 +1,8 @@
 //! Tasks, and the children that they spawn.
 
-ghost use Rattle.std.specs.Prelude.{◌≡◌, IfErr, IfOk, IfSome};
+ghost use Rattle.std.specs.Prelude.{◌≡◌, IfErr, IfOk, IfSome, OnOk};
 ghost use Rattle.task_run.specs.Jobs.{IsJob};
-ghost use Rattle.weighted_task.specs.Tasks.{IsBegun, IsChild, IsFirst, IsRoot, IsRootBody, IsTask};
+ghost use Rattle.weighted_task.specs.Tasks.{IsBegun, IsChild, IsRoot, IsRootBody, IsTask, StartsAs};
 
 use crate::rooms::TaskRooms;
 use crate::stake::{ScopeMark, Share, Stake};
@@ -25,7 +25,7 @@ pub struct Task<'p> {
 #[derive(Drop)]
 pub struct Body<'p> {
     pub job: Job<'p>,
-    /// None once it has reached an end.
+    /// Once it has reached an end, what is left of it is good only for the start of another task.
     pub run: Option<Run<'p>>,
 
     // The scopes that it belongs to.
@@ -100,9 +100,37 @@ impl<'p> Child<'p> {
             share,
         } = self;
         let start = rooms.runs.take_out(start);
-        let run = Run::begin(job.plan(), start, &mut rooms.runs)?;
-        let body = first_body(job, run, scope, rooms)?;
+        let body = first_body(job, start, scope, rooms)?;
         Ok(Task { body, share })
+    }
+}
+
+impl<'p> Body<'p> {
+    /// Makes a body that has ended the body of another task, at its start. The run is made in its
+    /// place.
+    fn begin_again(
+        &mut self,
+        job: Job<'p>,
+        start: Start<'p>,
+        scope: ScopeMark,
+    ) -> Result<(), AllocError>
+        ensures { OnOk result (StartsAs job.entry start.entry scope self.new) }
+    {
+        self.outer.clear();
+        self.job = job;
+        self.scope = scope;
+        self.opened = 0;
+        match &mut self.run {
+            Some(run) => {
+                run.begin_again(job.plan(), start)?;
+                Ok(())
+            }
+            None => {
+                let run = Run::begin(job.plan(), start)?;
+                self.run = Some(run);
+                Ok(())
+            }
+        }
     }
 }
 
@@ -111,53 +139,42 @@ fn root_body<'p>(job: Job<'p>) -> Result<Box<Body<'p>>, AllocError>
     requires { IsJob job }
     ensures { IfOk result (λ b. IsRootBody job.entry b.value) }
 {
-    let mut rooms = TaskRooms::new(job.alloc);
-    let run = Run::begin(job.plan(), job.root()?, &mut rooms.runs)?;
     let scope = ScopeMark {
         depth: 0,
         number: 0,
     };
-    first_body(job, run, scope, &mut rooms)
+    new_body(job, job.root()?, scope)
 }
 
-/// Returns the body of a task that has started no finish.
+/// Returns the body of a task at its start, in this scope.
 fn first_body<'p>(
     job: Job<'p>,
-    run: Run<'p>,
+    start: Start<'p>,
     scope: ScopeMark,
     rooms: &mut TaskRooms<'p>,
 ) -> Result<Box<Body<'p>>, AllocError>
-    ensures { IfOk result (λ b. IsFirst job.entry run.entry scope b.value) }
+    ensures { IfOk result (λ b. StartsAs job.entry start.entry scope b.value) }
 {
     match rooms.body() {
-        Some(room) => Ok(first_body_in(room, job, run, scope)),
-        None => new_body(job, run, scope),
+        Some(room) => {
+            let mut body = room;
+            body.begin_again(job, start, scope)?;
+            Ok(body)
+        }
+        None => new_body(job, start, scope),
     }
-}
-
-/// Returns such a body in the box of one that has ended. The run is moved once.
-fn first_body_in<'p>(
-    room: Box<Body<'p>>,
-    job: Job<'p>,
-    run: Run<'p>,
-    scope: ScopeMark,
-) -> Box<Body<'p>>
-    ensures { IsFirst job.entry run.entry scope result.value }
-{
-    let mut body = room;
-    body.job = job;
-    body.run = Some(run);
-    body.scope = scope;
-    body.outer.clear();
-    body.opened = 0;
-    body
 }
 
 /// Returns such a body in a new box.
 #[inline(never)]
-fn new_body<'p>(job: Job<'p>, run: Run<'p>, scope: ScopeMark) -> Result<Box<Body<'p>>, AllocError>
-    ensures { IfOk result (λ b. IsFirst job.entry run.entry scope b.value) }
+fn new_body<'p>(
+    job: Job<'p>,
+    start: Start<'p>,
+    scope: ScopeMark,
+) -> Result<Box<Body<'p>>, AllocError>
+    ensures { IfOk result (λ b. StartsAs job.entry start.entry scope b.value) }
 {
+    let run = Run::begin(job.plan(), start)?;
     let body = Body {
         job,
         run: Some(run),
@@ -165,5 +182,6 @@ fn new_body<'p>(job: Job<'p>, run: Run<'p>, scope: ScopeMark) -> Result<Box<Body
         outer: Vec::new(job.alloc),
         opened: 0,
     };
-    Ok(Box::new(job.alloc, body)?)
+    let body = Box::new(job.alloc, body)?;
+    Ok(body)
 }

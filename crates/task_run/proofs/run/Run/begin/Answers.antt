@@ -27,7 +27,7 @@ returns-clause-begun c =
     record {
       own = at_first (owned_by s.holdings);
       shows = record {
-        frames = ([], top, c.in_ok-push.ensures.items ∙ ap (λ (gs : List TaskFrame). gs ++ top ∷ []) c.in_ok-frames.ensures, refl, refl);
+        frames = ([], top, c.in_ok-push.ensures.items ∙ ap (λ (gs : List TaskFrame). gs ++ top ∷ []) c.in_ok-frames.ensures.items, refl, refl);
         owned = refl;
         pending = sym (ap (map listed) c.new-4.ensures.items);
         few = omega arith;
