@@ -90,7 +90,8 @@ fn moved(results: Vec<TaskResult>, targets: Vec<usize>) -> Vec<TaskResult>
     let mut left = results.len().saturating_mul(2);
     'swaps: while left > 0 {
         left -= 1;
-        at = swapped(&mut results, &mut targets, at);
+        let next = swapped(&mut results, &mut targets, at);
+        at = next;
     }
     results
 }

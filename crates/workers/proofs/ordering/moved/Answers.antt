@@ -6,4 +6,4 @@ swaps-init c = IsPermutation-refl c.args.results.items
 
 pub swaps-preserved : goal.swaps-preserved
 swaps-preserved c =
-    IsPermutation-trans c.args.results.items c.swaps.results.items c.swapped-at.new.results.items c.swaps.invariant c.swapped-at.ensures
+    IsPermutation-trans c.args.results.items c.swaps.results.items c.swapped-next.new.results.items c.swaps.invariant c.swapped-next.ensures
