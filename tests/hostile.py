@@ -14,7 +14,7 @@ import threading
 import time
 
 from hostile_stack import SMALL_STACK, nested, stack
-from hostile_traces import LINES, cut_anywhere, of_other_runs, spelled_otherwise, swapped_and_doubled
+from hostile_traces import LINES_TWO, cut_anywhere, of_other_runs, spelled_otherwise, swapped_and_doubled
 from runs import LIMIT, Counts, Ended, built_program, fail, finish, run, shown, start
 
 # The most seconds of a part in the short sweep, for those whose tables are long.
@@ -141,7 +141,7 @@ def traces(tests):
     tests.file("nested.afx", "main { finish { async { async { print 1; } print 2; } } print 3; }\n")
     ended = tests.run("run", "t.afx", "--w0", "8", "--workers", "1", "--trace", "t.trace")
     held = (tests.room / "t.trace").read_bytes()
-    tests.judge("the trace of the page", None if held.decode() == "".join(LINES) and ended.status == 0 else str(ended))
+    tests.judge("the trace of the page", None if held.decode() == "".join(LINES_TWO) and ended.status == 0 else str(ended))
     tests.run("run", "nested.afx", "--workers", "1", "--trace", "nested.trace")
     for name, text, wanted in tests.until_over([*cut_anywhere(), *swapped_and_doubled(), *spelled_otherwise()]):
         judge_trace(tests, name, text, wanted)
@@ -437,7 +437,7 @@ def replaced(tests):
     """Files that are written where there is a link, or with a long name; what is there is kept, and nothing is left."""
     room = tests.room
     trace = ["run", "t.afx", "--workers", "1", "--w0", "8", "--trace"]
-    whole = "".join(LINES).encode()
+    whole = "".join(LINES_TWO).encode()
     os.symlink("aimed", room / "dangling")
     os.symlink("dangling", room / "second")
     for name, target in (("dangling", "aimed"), ("second", "aimed"), ("x" * 255, "x" * 255), ("x" * 255, "x" * 255)):
@@ -542,7 +542,7 @@ def first_files(tests):
     for redirected in (">&-", "<&- >&- 2>&-"):
         ended = by_shell(tests, redirected, trace)
         held = (tests.room / "first.trace").read_bytes()
-        good = ended.status == 1 and held.decode() == "".join(LINES)
+        good = ended.status == 1 and held.decode() == "".join(LINES_TWO)
         tests.judge(f"{' '.join(trace)} {redirected}", None if good else f"{ended}, trace {shown(held)}")
 
 

@@ -1,7 +1,8 @@
 #!/usr/bin/env python3
 """Runs the program with its standard error at a pseudo-terminal, at a pipe, and with each word of `--explain` or `--warn`,
-and compares what it writes: only at a terminal explanations and warnings are written by default. No contract says that `main` finds a terminal, and
-the rows of examples/rows have none. Prints each run that differs; the last line is `N passed, M failed`.
+and compares what it writes: only at a terminal explanations and warnings are written by default, and the time of a long
+command is shown. No contract says that `main` finds a terminal, and the rows of examples/rows have none. Prints each run that
+differs; the last line is `N passed, M failed`.
 
     python3 tests/terminal.py      AFX=./afx names another program
 """
@@ -12,6 +13,8 @@ import re
 import subprocess
 import sys
 import tempfile
+import threading
+import time
 
 TOP = pathlib.Path(__file__).resolve().parent.parent
 
@@ -60,9 +63,11 @@ idle.afx:1:8: warning: this `finish` has no task to wait for
        |        ^
 help: remove the `finish`, or start tasks in it with `async`.
 """
-SLOW = b"main { var i = 0; while i < 200000000 { i = i + 1; } print 1; }\n"
+SLOW = b"main { var i = 0; while i < %d { i = i + 1; } print 1; }\n"
+# As many tasks, for a long trace.
+TASKS = b"main { var i = 0; while i < %d { finish { async { print 1; } } i = i + 1; } }\n"
 TIME = re.compile(rb"(?:\rafx: [0-9]+ s)+\r\x1b\[K")
-FILES = {"slow.afx": SLOW, "refused.afx": REFUSED, "faulty.afx": FAULTY, "endless.afx": ENDLESS, "idle.afx": IDLE,
+FILES = {"slow.out": b"1\n", "refused.afx": REFUSED, "faulty.afx": FAULTY, "endless.afx": ENDLESS, "idle.afx": IDLE,
          "right.afx": b"main { print 1; }\n"}
 
 # The words of a run, its output, the line that it writes in any case, its explanation or warnings, and its status.
@@ -80,6 +85,20 @@ WARNED = (
     (["check", "right.afx"], b"accepted: 0 procedures, 1 labels\n", b"", b"", 0),
     (["check", "--explain=never", "refused.afx"], b"", REFUSED_LINE, b"", 1),
 )
+STEPS = ["--steps", "1000000000"]
+# Commands that take long, each with whether it shows the time. A command is run with more turns or tasks until it takes long
+# enough. No program takes that long to check, so `check` waits for the text of its program.
+LONG = (
+    (["serial", "slow.afx", *STEPS], True),
+    (["serial", "slow.afx", *STEPS, "--progress"], False),
+    (["run", "slow.afx", "--workers", "1", *STEPS], True),
+    (["cost", "slow.afx", *STEPS], True),
+    (["bench", "slow.afx", "--workers", "1", *STEPS], True),
+    (["test", "slow.afx", *STEPS], True),
+    (["check", "late.afx"], True),
+    (["view", "tasks.afx", "tasks.trace", "--summary"], True),
+)
+LONG_ENOUGH = 1.5
 
 
 def at_terminal(words, room, env, keeps_time=False):
@@ -107,6 +126,25 @@ def at_pipe(words, room, env):
     """Returns the same of a run whose standard error is a pipe."""
     ran = subprocess.run([AFX, *words], cwd=room, env=env, stdin=subprocess.DEVNULL, capture_output=True)
     return ran.stdout, ran.stderr, ran.returncode
+
+
+def long_run(words, room, env):
+    """Runs a command with growing programs, until it takes long enough. Returns what it tells, and the seconds."""
+    for size in (1, 4, 16):
+        (pathlib.Path(room) / "slow.afx").write_bytes(SLOW % (28000000 * size))
+        if words[0] == "view":
+            (pathlib.Path(room) / "tasks.afx").write_bytes(TASKS % (60000 * size))
+            at_pipe(["run", "tasks.afx", "--workers", "1", *STEPS, "--tasks", "1000000", "--trace", "tasks.trace"], room, env)
+        if words[0] == "check":
+            late = pathlib.Path(room) / "late.afx"
+            os.mkfifo(late)
+            threading.Timer(2, late.write_bytes, [b"main { print 1; }\n"]).start()
+        began = time.monotonic()
+        told = at_terminal(words, room, env, keeps_time=True)
+        seconds = time.monotonic() - began
+        if seconds >= LONG_ENOUGH:
+            break
+    return told, seconds
 
 
 def main():
@@ -138,15 +176,17 @@ def main():
                 failed += 1
                 print(f"{way.__name__}: colours: {told}")
         # A command that takes more than a second shows the time, at a terminal alone, and erases it.
-        for words, is_shown in ((["serial", "slow.afx", "--steps", "1000000000"], True),
-                                (["serial", "slow.afx", "--steps", "1000000000", "--progress"], False)):
-            told = at_terminal(words, room, env, keeps_time=True)
-            if told[0] == b"1\n" and bool(TIME.search(told[1])) == is_shown and (not is_shown or not TIME.sub(b"", told[1])):
+        for words, is_shown in LONG:
+            told, seconds = long_run(words, room, env)
+            out, line, status = told
+            is_right = status == 0 and bool(TIME.search(line)) == is_shown and (not is_shown or not TIME.sub(b"", line))
+            if is_right and seconds >= LONG_ENOUGH:
                 passed += 1
             else:
                 failed += 1
-                print(f"the time: afx {' '.join(words)}\n  {told}")
-        if at_pipe(["serial", "slow.afx", "--steps", "1000000000"], room, env) == (b"1\n", b"", 0):
+                print(f"the time: afx {' '.join(words)}\n  {line} {status} {out[:200]} {seconds:.1f} s")
+        (pathlib.Path(room) / "slow.afx").write_bytes(SLOW % 200000000)
+        if at_pipe(["serial", "slow.afx", *STEPS], room, env) == (b"1\n", b"", 0):
             passed += 1
         else:
             failed += 1

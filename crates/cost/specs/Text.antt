@@ -33,11 +33,17 @@ advice c =
     then codes "help: most tasks are too small to pay; stop dividing sooner, or take larger pieces\n"
     else []
 
--- how many steps a task takes on average, and how many tasks take fewer than 1,000
+-- how many steps a task takes on average
+abbrev pub steps_line : Cost → List ℕ
+steps_line c = line (codes "steps per task") (parallelism c.work c.tasks)
+
+-- how many tasks take fewer than 1,000 steps
+abbrev pub small_line : Cost → List ℕ
+small_line c = line (codes "tasks under 1000 steps") (decimal c.small)
+
+-- both, and what to change
 abbrev pub grain_lines : Cost → List ℕ
-grain_lines c =
-    line (codes "steps per task") (parallelism c.work c.tasks)
-    ++ (line (codes "tasks under 1000 steps") (decimal c.small) ++ advice c)
+grain_lines c = steps_line c ++ (small_line c ++ advice c)
 
 abbrev pub cost_text : Cost → List ℕ
 cost_text c = work_lines c ++ (task_lines c ++ grain_lines c)

@@ -6,7 +6,7 @@ ghost use Rattle.types.specs.Translation.{procedure as plain_procedure, program 
 ghost use Rattle.cost.specs.Shares.{share_of};
 ghost use Rattle.cost.specs.Text.{advice, cost_text, grain_lines, is_too_fine, label_line, labels_text};
 ghost use Rattle.cost.specs.Text.{procedure_line, procedure_lines as lines_of, procedures_text};
-ghost use Rattle.cost.specs.Text.{share_line, task_lines, work_lines};
+ghost use Rattle.cost.specs.Text.{share_line, small_line, steps_line, task_lines, work_lines};
 
 use crate::cost::Cost;
 use crate::shares::{at, share};
@@ -59,11 +59,27 @@ fn push_tasks(text: &mut String, cost: &Cost) -> Result<(), AllocError>
 pub fn push_grain(text: &mut String, cost: &Cost) -> Result<(), AllocError>
     ensures { OnOk result (string_bytes text.new ≡ string_bytes text.old ++ grain_lines cost.now) }
 {
-    text.push_str("steps per task: ")?;
-    push_parallelism(text, cost.work, cost.tasks)?;
-    let small = cost.small;
-    write!(text, "tasks under 1000 steps: {small}\n")?;
+    push_steps(text, cost)?;
+    push_small(text, cost)?;
     push_advice(text, cost)
+}
+
+/// Adds how many steps a task takes on average.
+fn push_steps(text: &mut String, cost: &Cost) -> Result<(), AllocError>
+    ensures { OnOk result (string_bytes text.new ≡ string_bytes text.old ++ steps_line cost.now) }
+{
+    let steps = cost.work;
+    let tasks = cost.tasks;
+    text.push_str("steps per task: ")?;
+    push_parallelism(text, steps, tasks)
+}
+
+/// Adds how many tasks are small.
+fn push_small(text: &mut String, cost: &Cost) -> Result<(), AllocError>
+    ensures { OnOk result (string_bytes text.new ≡ string_bytes text.old ++ small_line cost.now) }
+{
+    let small = cost.small;
+    write!(text, "tasks under 1000 steps: {small}\n")
 }
 
 /// Adds what to change, if tasks are too small to pay.

@@ -1,5 +1,5 @@
 -- Trees in their Rust form: the numbers in them, and their ends.
-use Rattle.std.proofs.Common.{◌≡◌, ℕ, suc, ◌+◌, List, [], ◌∷◌, ◌++◌, length, refl, sym, ap, ◌∙◌, arith}
+use Rattle.std.proofs.Common.{◌≡◌, ℕ, suc, ◌+◌, List, [], ◌∷◌, ◌++◌, length, refl, sym, subst, ap, ◌∙◌, arith}
 use Rattle.std.proofs.lemmas.List.{append_assoc}
 use Rattle.std.proofs.lemmas.Bool.{and_from, and_parts}
 use Rattle.std.specs.Prelude.{ℤ, Bool, true, false, nat_eq, map, if◌then◌else◌, Box}
@@ -90,6 +90,21 @@ done-rights (x ∷ bs) t u e =
     let c = all_done (with_rights bs (Beside t u)) in let d = all_done (tree_of x.value) in
     and_from (all_done (with_rights bs u)) d (done-rights bs t u (and_parts c d e).0) (and_parts c d e).1
 
+-- without faults a leaf continues
+pub without_faults : (h : Handler) (fs : List rFault) (j : Leaf) → fs ≡ [] → returned j ≡ after_faults h (map fault fs) j
+without_faults NoHandler fs j none = subst (λ xs. returned j ≡ after_faults NoHandler (map fault xs) j) (sym none) refl
+without_faults (HandledBy n c) fs j none = subst (λ xs. returned j ≡ after_faults (HandledBy n c) (map fault xs) j) (sym none) refl
+
+-- with faults it is done, or its handler starts
+pub done_with_faults : (fs : List rFault) (j : Leaf) → nat_eq (length fs) 0 ≡ false → done j ≡ after_faults NoHandler (map fault fs) j
+done_with_faults [] j e = absurd (let bad : ⊥ = cc in bad)
+done_with_faults (f ∷ fs) j e = refl
+
+pub handled_with_faults : (n : ℕ) (c : Codes) (fs : List rFault) (j : Leaf) → nat_eq (length fs) 0 ≡ false
+    → returned (handling n c j) ≡ after_faults (HandledBy n c) (map fault fs) j
+handled_with_faults n c [] j e = absurd (let bad : ⊥ = cc in bad)
+handled_with_faults n c (f ∷ fs) j e = refl
+
 -- what waited for the end of a tree of which this remains
 module _ (t : Tree) (x : Handler) (k : Leaf) (r : Remains) (left : IsLeftOf t r) where
   abbrev with : Environment → ℕ → List (List ℤ) → List Fault → Leaf
@@ -98,7 +113,7 @@ module _ (t : Tree) (x : Handler) (k : Leaf) (r : Remains) (left : IsLeftOf t r)
   abbrev pub going_on : Leaf
   going_on = with (environment r.environment) r.spawned (map (λ v. v.items) r.lines.items) (map fault r.faults.items)
 
-  goes_on : after_faults x (map fault r.faults.items) going_on ≡ closed t x k
+  pub goes_on : after_faults x (map fault r.faults.items) going_on ≡ closed t x k
   goes_on =
       let ls = map (λ v. v.items) r.lines.items in let fs = map fault r.faults.items in
       let env = task_environment (rightmost t) in let n = (rightmost t).spawned in
@@ -106,33 +121,3 @@ module _ (t : Tree) (x : Handler) (k : Leaf) (r : Remains) (left : IsLeftOf t r)
       ∙ ap (λ (n : ℕ). after_faults x fs (with env n ls fs)) left.spawned
       ∙ ap (λ (ls : List (List ℤ)). after_faults x fs (with env n ls fs)) left.lines
       ∙ ap (λ (fs : List Fault). after_faults x fs (with env n (lines_of t) fs)) left.faults
-
-  -- with faults it is done, or its handler starts
-  faulted_by : (fs : List rFault) (j : Leaf) → nat_eq (length fs) 0 ≡ false → done j ≡ after_faults NoHandler (map fault fs) j
-  faulted_by [] j e = absurd (let bad : ⊥ = cc in bad)
-  faulted_by (f ∷ fs) j e = refl
-
-  handled_by : (n : ℕ) (c : Codes) (fs : List rFault) (j : Leaf) → nat_eq (length fs) 0 ≡ false
-      → returned (handling n c j) ≡ after_faults (HandledBy n c) (map fault fs) j
-  handled_by n c [] j e = absurd (let bad : ⊥ = cc in bad)
-  handled_by n c (f ∷ fs) j e = refl
-
-  pub closed-faulted : x ≡ NoHandler → nat_eq (length r.faults.items) 0 ≡ false → done going_on ≡ closed t x k
-  closed-faulted none e =
-      faulted_by r.faults.items going_on e ∙ ap (λ h. after_faults h (map fault r.faults.items) going_on) (sym none) ∙ goes_on
-
-  pub closed-handled : (n : ℕ) (c : Codes) → x ≡ HandledBy n c → nat_eq (length r.faults.items) 0 ≡ false
-      → returned (handling n c going_on) ≡ closed t x k
-  closed-handled n c some e =
-      handled_by n c r.faults.items going_on e
-      ∙ ap (λ h. after_faults h (map fault r.faults.items) going_on) (sym some) ∙ goes_on
-
-  -- without faults it continues
-  faultless_by : (h : Handler) (fs : List rFault) (j : Leaf) → nat_eq (length fs) 0 ≡ true
-      → returned j ≡ after_faults h (map fault fs) j
-  faultless_by NoHandler [] j e = refl
-  faultless_by (HandledBy n c) [] j e = refl
-  faultless_by h (f ∷ fs) j e = absurd (let bad : ⊥ = cc in bad)
-
-  pub closed-faultless : nat_eq (length r.faults.items) 0 ≡ true → returned going_on ≡ closed t x k
-  closed-faultless e = faultless_by x r.faults.items going_on e ∙ goes_on

@@ -2,7 +2,8 @@
 
 ghost use Rattle.std.specs.Prelude.{◌≡◌, ◌<◌, ◌+◌, ◌++◌, ◌∷◌, [], IfOk, OnOk, true};
 ghost use Rattle.types.specs.Trees.{all_done, ready as ready_leaves, and_then as then_tree};
-ghost use Rattle.types.specs.Trees.{closed as closed_leaf, handling, returned as returned_leaf, Beside};
+ghost use Rattle.types.specs.Trees.{after_faults, closed as closed_leaf, handling, returned as returned_leaf};
+ghost use Rattle.types.specs.Trees.{Beside};
 ghost use Rattle.types.specs.Translation.{codes as codes_of};
 ghost use Rattle.step_trees.specs.Translation.{leaf_of, handler_of};
 ghost use Rattle.step_trees.specs.Alike.{AreAlike};
@@ -539,7 +540,6 @@ fn closed<'p>(alloc: Global, first: Tree<'p>, waiting: Waiting<'p>) -> Result<Le
         (handler_of waiting.entry.handler) (leaf_of waiting.entry.leaf)) }
 {
     let remains = first.take_apart(alloc)?;
-    let faulted = !remains.faults.is_empty();
     let Waiting {
         leaf: behind,
         handler,
@@ -553,13 +553,24 @@ fn closed<'p>(alloc: Global, first: Tree<'p>, waiting: Waiting<'p>) -> Result<Le
         lines: remains.lines,
         faults: remains.faults,
     };
-    if faulted {
-        match handler {
-            None => Ok(done(alloc, leaf)),
-            Some(handler) => handled(alloc, leaf, handler),
-        }
-    } else {
-        Ok(returned(leaf))
+    continued(alloc, leaf, handler)
+}
+
+/// Returns a leaf as it continues after a finish that has gathered the leaf's faults.
+fn continued<'p>(
+    alloc: Global,
+    leaf: Leaf<'p>,
+    handler: Option<Handler<'p>>,
+) -> Result<Leaf<'p>, AllocError>
+    ensures { IfOk result (λ k. leaf_of k ≡ after_faults (handler_of handler.entry)
+        (leaf_of leaf.entry).faults (leaf_of leaf.entry)) }
+{
+    if leaf.faults.is_empty() {
+        return Ok(returned(leaf));
+    }
+    match handler {
+        None => Ok(done(alloc, leaf)),
+        Some(handler) => handled(alloc, leaf, handler),
     }
 }
 

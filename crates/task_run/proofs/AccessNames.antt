@@ -8,7 +8,7 @@ use Rattle.types.specs.Code.{Code, Codes, End, Then, Program}
 use Rattle.types.specs.Value.{Environment}
 use Rattle.types.specs.Run.{procedure_of}
 use Rattle.effects.specs.Accesses.{Access, reads, own_accesses}
-use Rattle.effects.specs.Effects.{past_parts, past_split, if_body, if_other, while, split, parts, call, AllOf, All}
+use Rattle.effects.specs.Effects.{past_parts, past_split, if_body, if_other, while, split, parts, call, handler, AllOf, All}
 use Rattle.effects.specs.Effects.{PendingOf, Pending, accesses, renamed}
 use Rattle.effects.specs.Footprint.{Touches, Overwrites}
 use Rattle.race_checker.specs.Scope.{Scope, Top, Inside, AtPiece, InScope, may_writes, ScopedOf, Scoped}
@@ -63,8 +63,11 @@ module _ (p : Program) where
           subst (λ z. InScope sc z.section) (sym e)
           (scoped x.section (subst (λ n. x.section < n) (length_may_writes (procedure_of p f))
           (named_all (Top (may_writes (procedure_of p f))) _ x (procedures f) h)))
+      named_of sc l s y names scoped (AllOf.inner {x = x} handler h e) =
+          subst (λ z. InScope sc z.section) (sym e) (named_all sc _ x scoped.1 h)
       named_of sc l s y names scoped (AllOf.async h) = named_all sc _ y scoped h
       named_of sc l s y names scoped (AllOf.finish h) = named_all sc _ y scoped h
+      named_of sc l s y names scoped (AllOf.rescued h) = named_all sc _ y scoped.0 h
 
       -- what is accessed is in scope
       pub named_all : (sc : Scope) (b : Codes) (y : Access) → Scoped p sc b → All p accesses b y → InScope sc y.section

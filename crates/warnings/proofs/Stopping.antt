@@ -98,7 +98,7 @@ rescue_tells : (f : Flow) (x : ℕ) (go : S → S) (before : List Fault) (out : 
     → Tells (go (caught x before out)) → Tells (rescued_by f x go before out)
 rescue_tells On x go before out is handled = on_tells out is
 rescue_tells Faulted x go before out is handled = handled
-rescue_tells Stopped x go before out is handled over = absurd (stopped_faulted (sym is ∙ over))
+rescue_tells Stopped x go before out is handled = λ over. absurd (stopped_faulted (sym is ∙ over))
 
 -- and an async never does
 async_tells : (f : Flow) → after_async f ≡ Faulted → ⊥
@@ -139,7 +139,7 @@ rescue_over : (f : Flow) (x : ℕ) (go : S → S) (before : List Fault) (out : S
     → IsOver (go (caught x before out)) → IsOver (rescued_by f x go before out)
 rescue_over On x go before out is over handled = absurd (over is)
 rescue_over Faulted x go before out is over handled = handled
-rescue_over Stopped x go before out is over handled e = stopped_on (sym is ∙ e)
+rescue_over Stopped x go before out is over handled = λ e. stopped_on (sym is ∙ e)
 
 module _ (p : Program) (begin : Codes → S → S) (begun : (b : Codes) (st : S) → Tells (begin b st)) where
   abbrev r : Rules (Unit {0})

@@ -15,7 +15,7 @@ returns-in_default c = λ small.
     ap (λ xs. before_children (map listed xs))
     (drop_more all i item c.children-test.true ∙ ap (λ x. x ∷ drop (i + 1) all) (sym c.child-item.is))
     ∙ ap (λ n. n + rest) (length-map item.faults.items fault) in
-    let so_far = c.children.invariant in
+    let so_far = c.children.invariant.0 in
     let long = c.len.ensures in
     c.in_default.ensures (omega (arith, small, so_far, split, long))
 
@@ -29,13 +29,15 @@ children-preserved c =
     ap (λ xs. before_children (map listed xs))
     (drop_more all i item c.children-test.true ∙ ap (λ x. x ∷ drop (i + 1) all) (sym c.child-item.is))
     ∙ ap (λ n. n + rest) (length-map item.faults.items fault) in
-    let so_far = c.children.invariant in
+    let so_far = c.children.invariant.0 in
     let long = c.len.ensures in
+    let fits = c.in-Some.ensures.0 in
     let more = c.in-Some.ensures.1 in
-    omega (arith, so_far, split, long, more)
+    (omega (arith, so_far, split, long, more), omega (arith, fits, more))
 
 pub returns : goal.returns
 returns c =
     let none = ap (λ xs. before_children (map listed xs)) (drop_all c.children.child-index c.args.children.now c.children-test.false) in
-    let so_far = c.children.invariant in
-    (omega (arith, none, so_far), omega (arith, none, so_far))
+    let so_far = c.children.invariant.0 in
+    let small = c.children.invariant.1 in
+    (omega (arith, none, so_far, small), omega (arith, none, so_far))

@@ -24,7 +24,7 @@ all_written ws (r ∷ rs) none = absurd (cc)
 
 -- if the places are there, only memory is the reason
 no_memory : (P : Type 0) (e : HoldError) → P → RefusesPlaces e P → e ≡ OutOfMemory
-no_memory P NotHeld there no = absurd (no there)
+no_memory P NotHeld there lacks = absurd (lacks there)
 no_memory P OutOfMemory there r = refl
 no_memory P OwnedTwice there r = absurd r
 
