@@ -13,8 +13,8 @@ use Rattle.event_worlds.specs.Worlds.{outcome_of, replayed}
 use Rattle.event_worlds.specs.declared.job.WeightedJob.{WeightedJob}
 use Rattle.trace_text.specs.Headers.{TraceHeader, header_of as header_in}
 use Rattle.trace_text.specs.Lines.{trace_text}
-use Rattle.trace_text.specs.declared.header.Format.{Format}
-use Rattle.trace_text.specs.declared.header.Format.TheVariants.{Two}
+use Rattle.trace_text.specs.declared.format.Format.{Format}
+use Rattle.trace_text.specs.declared.format.Format.TheVariants.{Two}
 use Rattle.trace_text.specs.declared.header.Header.{Header}
 use Rattle.trace.specs.Logs.{LeadsToOutcome, Recorded}
 use Rattle.command_line.specs.Requests.{settings}

@@ -11,7 +11,7 @@ use Rattle.finish_scope.specs.RunErrors.{IsRunCause}
 use Rattle.event_worlds.specs.World.{World}
 use Rattle.event_worlds.specs.Worlds.{LeadsTo, outcome_of}
 use Rattle.trace_text.specs.Headers.{TraceHeader}
-use Rattle.trace_text.specs.declared.header.Format.TheVariants.{Two}
+use Rattle.trace_text.specs.declared.format.Format.TheVariants.{Two}
 use Rattle.trace_text.specs.Lines.{trace_text}
 use Rattle.command_line.specs.Requests.{Settings}
 use Rattle.files.specs.Held.{Held}

@@ -14,7 +14,7 @@ use Rattle.event_worlds.proofs.Staying.{stays_shown}
 use Rattle.event_worlds.proofs.Walking.{replayed_on}
 use Rattle.trace.specs.Logs.{IsClean, Recorded}
 use Rattle.trace_text.specs.Spelled.{fits, suits}
-use Rattle.trace_text.specs.declared.header.Format.TheVariants.{Two}
+use Rattle.trace_text.specs.declared.format.Format.TheVariants.{Two}
 
 -- the log of a world and events
 abbrev pub recorded : World → List Event → Recorded

@@ -16,7 +16,7 @@ use Rattle.event_worlds.specs.Worlds.{outcome_of}
 use Rattle.event_worlds.specs.declared.error.EventError.{EventError}
 use Rattle.events.specs.declared.event.Event.{Event}
 use Rattle.trace_text.specs.Spelled.{fits}
-use Rattle.trace_text.specs.declared.header.Format.TheVariants.{Two}
+use Rattle.trace_text.specs.declared.format.Format.TheVariants.{Two}
 use Rattle.event_worlds.specs.declared.job.WeightedJob.{WeightedJob}
 use Rattle.event_worlds.specs.declared.world.World.{World}
 

@@ -8,7 +8,7 @@ use Rattle.event_worlds.specs.World.{World}
 use Rattle.event_worlds.specs.declared.job.WeightedJob.{WeightedJob}
 use Rattle.events.specs.declared.event.Event.{Event}
 use Rattle.trace_text.specs.Spelled.{fits}
-use Rattle.trace_text.specs.declared.header.Format.TheVariants.{Two}
+use Rattle.trace_text.specs.declared.format.Format.TheVariants.{Two}
 use Rattle.trace_text.specs.declared.header.Header.{Header}
 
 -- the events are legal, and these are the same with their numbers

@@ -12,7 +12,7 @@ ghost use Rattle.event_worlds.specs.declared.error.EventError.TheVariants.{Illeg
 ghost use Rattle.event_worlds.specs.Walks.{IsIllegal};
 ghost use Rattle.trace.specs.Logs.{IsClean, LeadsToOutcome, Leaves, job_of};
 ghost use Rattle.trace_text.specs.Spelled.{fits as fits_in};
-ghost use Rattle.trace_text.specs.declared.header.Format.TheVariants.{Two};
+ghost use Rattle.trace_text.specs.declared.format.Format.TheVariants.{Two};
 
 use event_worlds::error::EventError;
 use event_worlds::job::WeightedJob;
@@ -21,7 +21,8 @@ use events::event::Event;
 use race_checker::accepted::Accepted;
 use std::alloc::Global;
 use std::marker::Model;
-use trace_text::header::{Format, Header};
+use trace_text::format::Format;
+use trace_text::header::Header;
 use trace_text::write::suits;
 use types::input::Input;
 

@@ -9,7 +9,7 @@ ghost use Rattle.event_worlds.specs.Replaying.{IsRefused, event as event_of};
 ghost use Rattle.trace.specs.Logs.{job_of};
 ghost use Rattle.trace.specs.Upgrades.{IsUpgraded};
 ghost use Rattle.trace_text.specs.Spelled.{suits as suits_in};
-ghost use Rattle.trace_text.specs.declared.header.Format.TheVariants.{Two};
+ghost use Rattle.trace_text.specs.declared.format.Format.TheVariants.{Two};
 
 use event_worlds::error::{EventError, ReplayError};
 use event_worlds::job::WeightedJob;
@@ -17,7 +17,8 @@ use event_worlds::world::World;
 use events::event::Event;
 use race_checker::accepted::Accepted;
 use std::alloc::Global;
-use trace_text::header::{Format, Header};
+use trace_text::format::Format;
+use trace_text::header::Header;
 use trace_text::write::suits;
 use types::input::Input;
 

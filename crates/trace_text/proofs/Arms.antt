@@ -10,8 +10,8 @@ use Rattle.trace_text.specs.Headers.{TraceHeader, format_number}
 use Rattle.trace_text.specs.Kinds.{kind_name, kind_of, task_of}
 use Rattle.trace_text.specs.Lines.{event_object, header_object}
 use Rattle.trace_text.specs.Spelled.{Lacks, IsResumption, IsSpelled, IsTheft, IsWorkers, has_count}
-use Rattle.trace_text.specs.declared.header.Format.{Format}
-use Rattle.trace_text.specs.declared.header.Format.TheVariants.{One, Two}
+use Rattle.trace_text.specs.declared.format.Format.{Format}
+use Rattle.trace_text.specs.declared.format.Format.TheVariants.{One, Two}
 use Rattle.trace_text.specs.declared.kind.EventKind.{EventKind}
 use Rattle.trace_text.specs.declared.kind.EventKind.TheVariants.{Take as IsTake, Steal as IsSteal, Step as IsStep}
 use Rattle.trace_text.specs.declared.kind.EventKind.TheVariants.{Replenish as IsReplenish, Spawn as IsSpawn}

@@ -19,7 +19,7 @@ use Rattle.trace_text.specs.Reading.{BeginsWithEvent, BeginsWithHeader, IsBadEve
 use Rattle.trace_text.specs.declared.error.TraceError.{TraceError}
 use Rattle.trace_text.specs.declared.error.TraceError.TheVariants.{NotALine, NoMemory}
 use Rattle.trace_text.specs.Spelled.{IsCutAt, IsSpelled, Lacks}
-use Rattle.trace_text.specs.declared.header.Format.{Format}
+use Rattle.trace_text.specs.declared.format.Format.{Format}
 use Rattle.trace_text.proofs.Cuts.{not_lacking, one_cut}
 use Rattle.trace_text.proofs.NoFeeds.{Lacks-event, Lacks-header}
 

@@ -17,8 +17,8 @@ use Rattle.trace_text.specs.Kinds.{kind_name, kind_of, task_of}
 use Rattle.trace_text.specs.Lines.{event_line, event_object, header_line, header_object, line}
 use Rattle.trace_text.specs.Reading.{IsTrace}
 use Rattle.trace_text.specs.Spelled.{IsCut, IsPath, IsScope, IsSpelled, IsTheft, IsTurn, IsWorkers, Lacks}
-use Rattle.trace_text.specs.declared.header.Format.{Format}
-use Rattle.trace_text.specs.declared.header.Format.TheVariants.{One, Two}
+use Rattle.trace_text.specs.declared.format.Format.{Format}
+use Rattle.trace_text.specs.declared.format.Format.TheVariants.{One, Two}
 use Rattle.trace_text.specs.declared.kind.EventKind.{EventKind}
 use Rattle.trace_text.proofs.Arms.{behind_format, behind_nest, behind_steps, behind_w0, count_small, kind_then_quote, most_format, same_kind}
 use Rattle.trace_text.proofs.Arms.{text_of_event, text_of_front}

@@ -1,7 +1,7 @@
 -- The settings of a run, in the first line of a trace.
 use Rattle.std.specs.Prelude.{ℕ, ◌≤◌}
-use Rattle.trace_text.specs.declared.header.Format.{Format}
-use Rattle.trace_text.specs.declared.header.Format.TheVariants.{One, Two}
+use Rattle.trace_text.specs.declared.format.Format.{Format}
+use Rattle.trace_text.specs.declared.format.Format.TheVariants.{One, Two}
 use Rattle.trace_text.specs.declared.header.Header.{Header}
 
 -- the number of a format

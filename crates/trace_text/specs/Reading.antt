@@ -6,7 +6,7 @@ use Rattle.events.specs.Events.{Event}
 use Rattle.trace_text.specs.Headers.{TraceHeader, IsHeader}
 use Rattle.trace_text.specs.Lines.{event_line, header_line, trace_text}
 use Rattle.trace_text.specs.Spelled.{IsSpelled}
-use Rattle.trace_text.specs.declared.header.Format.{Format}
+use Rattle.trace_text.specs.declared.format.Format.{Format}
 use Rattle.trace_text.specs.declared.error.TraceError.{TraceError}
 use Rattle.trace_text.specs.declared.error.TraceError.TheVariants.{NotALine, NoMemory}
 

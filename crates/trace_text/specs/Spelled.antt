@@ -7,8 +7,8 @@ use Rattle.std.specs.List.{list_all}
 use Rattle.events.specs.Events.{Event, Take, Steal, Pass, Resume, ScopeId, event}
 use Rattle.events.specs.declared.event.Event.{Event as rEvent}
 use Rattle.trace_text.specs.Kinds.{task_of}
-use Rattle.trace_text.specs.declared.header.Format.{Format}
-use Rattle.trace_text.specs.declared.header.Format.TheVariants.{One, Two}
+use Rattle.trace_text.specs.declared.format.Format.{Format}
+use Rattle.trace_text.specs.declared.format.Format.TheVariants.{One, Two}
 
 -- the number of a child on the way to a task: at least 1, of 32 bits
 abbrev pub IsTurn : ℕ → Type 0

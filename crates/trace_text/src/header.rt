@@ -1,31 +1,10 @@
 //! The first line of a trace: the settings of its run.
 
 ghost use Rattle.std.specs.Prelude.{◌≡◌, ◌<◌, ◌≤◌, ◌⊎◌, ◌↔◌, IsNone, IfSome};
-ghost use Rattle.trace_text.specs.Headers.{format_number};
 
+use crate::format::Format;
 use events::worker_id::{MOST_WEIGHT, MOST_WORKERS};
 use types::budget::Budget;
-
-/// The format of a trace.
-#[derive(Clone, Copy, PartialEq, Eq, Debug)]
-pub enum Format {
-    /// `{"format":1,..}`
-    One,
-    /// `{"format":2,..}`: each resume has the number of faults that its finish has gathered.
-    Two,
-}
-
-impl Format {
-    /// Returns its number in a header.
-    pub fn number(self) -> u32
-        ensures { result ≡ format_number self }
-    {
-        match self {
-            Format::One => 1,
-            Format::Two => 2,
-        }
-    }
-}
 
 /// The settings of a run.
 #[derive(Clone, Copy, PartialEq, Eq, Debug)]

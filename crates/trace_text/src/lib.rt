@@ -4,6 +4,7 @@
 
 mod cut;
 pub mod error;
+pub mod format;
 pub mod header;
 pub mod kind;
 pub mod laws;

@@ -17,12 +17,13 @@ ghost use Rattle.trace_text.specs.Lines.{event_line, event_object, header_line, 
 ghost use Rattle.trace_text.specs.Reading.{AreEvents, IsEventRefusal, IsRefusal, IsTrace};
 ghost use Rattle.trace_text.specs.Spelled.{IsPath, IsResumption, IsScope, IsSpelled, IsTheft};
 ghost use Rattle.trace_text.specs.Spelled.{IsWorkers, Lacks};
-ghost use Rattle.trace_text.specs.declared.header.Format.{Format as AnyFormat};
-ghost use Rattle.trace_text.specs.declared.header.Format.TheVariants.{One, Two};
+ghost use Rattle.trace_text.specs.declared.format.Format.{Format as AnyFormat};
+ghost use Rattle.trace_text.specs.declared.format.Format.TheVariants.{One, Two};
 
 use crate::cut::{between, cut_at};
 use crate::error::TraceError;
-use crate::header::{Format, Header};
+use crate::format::Format;
+use crate::header::Header;
 use crate::kind::EventKind;
 use crate::line::{push_event, push_header};
 use crate::path::read_path;

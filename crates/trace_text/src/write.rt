@@ -7,7 +7,8 @@ ghost use Rattle.trace_text.specs.Headers.{header_of};
 ghost use Rattle.trace_text.specs.Lines.{trace_text};
 ghost use Rattle.trace_text.specs.Spelled.{fits as fits_in, has_count as is_count, suits as suits_in};
 
-use crate::header::{Format, Header};
+use crate::format::Format;
+use crate::header::Header;
 use crate::line::{push_event, push_header};
 use events::event::Event;
 use std::alloc::{AllocError, Global};

@@ -20,7 +20,7 @@ use Rattle.trace_text.specs.Lines.{trace_text}
 use Rattle.trace_text.specs.Reading.{IsRefusal, IsTrace}
 use Rattle.trace_text.specs.Table.{table_text}
 use Rattle.trace_text.specs.declared.error.TraceError.{TraceError}
-use Rattle.trace_text.specs.declared.header.Format.TheVariants.{One, Two}
+use Rattle.trace_text.specs.declared.format.Format.TheVariants.{One, Two}
 use Rattle.trace_text.specs.declared.header.Header.{Header}
 use Rattle.command_line.specs.Requests.{Settings}
 use Rattle.command_line.specs.declared.request.Command.{Command}

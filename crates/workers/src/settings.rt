@@ -1,10 +1,11 @@
 //! Limits of a run, and its number of workers.
 
 ghost use Rattle.std.specs.Prelude.{◌≡◌, ◌<◌, ◌≤◌, ◌⊎◌, ◌↔◌, IsNone, IfSome};
-ghost use Rattle.trace_text.specs.declared.header.Format.TheVariants.{Two};
+ghost use Rattle.trace_text.specs.declared.format.Format.TheVariants.{Two};
 
 use events::worker_id::{MOST_WEIGHT, MOST_WORKERS};
-use trace_text::header::{Format, Header};
+use trace_text::format::Format;
+use trace_text::header::Header;
 use types::budget::{Budget, MOST_TASKS};
 
 /// The limits of a run, and its number of workers.

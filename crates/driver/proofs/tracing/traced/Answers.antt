@@ -9,8 +9,8 @@ use Rattle.events.specs.declared.event.Event.{Event}
 use Rattle.trace_text.specs.Headers.{header_of as header_in}
 use Rattle.trace_text.specs.Lines.{trace_text}
 use Rattle.trace_text.specs.Spelled.{fits}
-use Rattle.trace_text.specs.declared.header.Format.{Format}
-use Rattle.trace_text.specs.declared.header.Format.TheVariants.{Two}
+use Rattle.trace_text.specs.declared.format.Format.{Format}
+use Rattle.trace_text.specs.declared.format.Format.TheVariants.{Two}
 use Rattle.finish_scope.specs.RunErrors.{IsRunCause}
 use Rattle.finish_scope.proofs.RunCauses.{cause_so}
 use Rattle.command_line.specs.Requests.{settings}

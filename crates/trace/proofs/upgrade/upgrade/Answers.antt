@@ -8,7 +8,7 @@ use Rattle.event_worlds.specs.Replaying.{comes}
 use Rattle.event_worlds.specs.declared.job.WeightedJob.{WeightedJob}
 use Rattle.event_worlds.proofs.Replaying.{goes_on, left_comes, stops_at}
 use Rattle.trace_text.specs.Spelled.{fits}
-use Rattle.trace_text.specs.declared.header.Format.TheVariants.{Two}
+use Rattle.trace_text.specs.declared.format.Format.TheVariants.{Two}
 use Rattle.trace.specs.Upgrades.{IsUpgraded}
 use Rattle.trace.proofs.LogLemmas.{fits_more}
 use Rattle.trace.proofs.UpgradeLemmas.{from, one_more}

@@ -9,7 +9,7 @@ use Rattle.event_worlds.specs.Replaying.{comes, event}
 use Rattle.event_worlds.specs.Shown.{Shows}
 use Rattle.event_worlds.specs.World.{World}
 use Rattle.trace_text.specs.Spelled.{fits}
-use Rattle.trace_text.specs.declared.header.Format.TheVariants.{Two}
+use Rattle.trace_text.specs.declared.format.Format.TheVariants.{Two}
 use Rattle.trace.proofs.upgrade.upgrade.Given as goal
 
 -- the tables represent a world; the events so far have their numbers, and the rest leads on from there

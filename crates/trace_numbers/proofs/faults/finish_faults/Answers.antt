@@ -3,7 +3,7 @@ use Rattle.trace_numbers.proofs.Gathering.{all_found, found_at_first, found_more
 use Rattle.trace_numbers.proofs.faults.finish_faults.Goals as goal
 
 pub loop-event-init : goal.loop-event-init
-loop-event-init c = found_at_first c.args.events.now c.start.result c.start.ensures
+loop-event-init c = found_at_first c.args.events.now c.start-finishes.result c.start-finishes.ensures
 
 pub loop-event-preserved : goal.loop-event-preserved
 loop-event-preserved c =

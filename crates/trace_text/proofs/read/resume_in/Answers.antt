@@ -3,7 +3,7 @@ use Rattle.std.specs.Prelude.{IfOk, IfSome, option_map}
 use Rattle.shared_lemmas.proofs.Results.{if_ok_then}
 use Rattle.events.specs.Events.{event}
 use Rattle.trace_text.specs.Spelled.{IsResumption, IsSpelled}
-use Rattle.trace_text.specs.declared.header.Format.{Format}
+use Rattle.trace_text.specs.declared.format.Format.{Format}
 use Rattle.trace_text.proofs.Arms.{told_counted, told_plain}
 use Rattle.trace_text.proofs.read.resume_in.Goals as goal
 

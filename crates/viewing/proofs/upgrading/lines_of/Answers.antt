@@ -8,8 +8,8 @@ use Rattle.event_worlds.specs.Numbering.{numbered}
 use Rattle.trace_text.specs.Headers.{TraceHeader, header_of}
 use Rattle.trace_text.specs.Lines.{trace_text}
 use Rattle.trace_text.specs.Spelled.{fits}
-use Rattle.trace_text.specs.declared.header.Format.{Format}
-use Rattle.trace_text.specs.declared.header.Format.TheVariants.{Two}
+use Rattle.trace_text.specs.declared.format.Format.{Format}
+use Rattle.trace_text.specs.declared.format.Format.TheVariants.{Two}
 use Rattle.viewing.proofs.Viewing.{legal_or_not, upgraded_header}
 use Rattle.viewing.proofs.upgrading.lines_of.Goals as goal
 
