@@ -247,6 +247,10 @@ impl Block {
         if from <= low && high <= to {
             return true;
         }
+        // The range of a cut is mostly an end of what is held, so the other end decides.
+        if to < high && self.holds(high - 1) {
+            return false;
+        }
         for offset in low..high {
             if (offset < from || offset >= to) && self.holds(offset) {
                 return false;

@@ -11,7 +11,7 @@ impl Block {
     ghost use Rattle.blocks.specs.Blocks.{held_at, owned_at};
     ghost use Rattle.blocks.specs.Counts.{how_many};
     ghost use Rattle.blocks.specs.Held.{Owned, first_of};
-    ghost use Rattle.blocks.specs.Offsets.{Agree, IsWithin};
+    ghost use Rattle.blocks.specs.Offsets.{Agree, HasAll, IsWithin};
     ghost use Rattle.blocks.specs.Ready.{CanTake, room_at};
 
     /// Makes room for what another block owns, so pasting it needs no memory. What is held doesn't
@@ -74,18 +74,36 @@ impl Block {
         }
     }
 
-    /// Returns whether another block owns all that is held here.
+    /// Returns whether another block owns all that is held here. Mostly the other block is a range
+    /// of owned numbers, and then the ends decide.
     fn is_within(&self, other: &Block) -> bool
         ensures { IsTrue result ↔ IsWithin (held_at self.now) (owned_at other.now) }
     {
         let low = self.start();
         let high = self.end();
+        if other.owns_range(low, high) {
+            return true;
+        }
+        if low < high && self.holds(high - 1) && !other.owns(high - 1) {
+            return false;
+        }
         for offset in low..high {
             if self.holds(offset) && !other.owns(offset) {
                 return false;
             }
         }
         true
+    }
+
+    /// Returns whether the block is a range of owned numbers that has all offsets of another range.
+    /// Takes no look at the numbers, so the answer `false` means nothing.
+    fn owns_range(&self, from: usize, to: usize) -> bool
+        ensures { IsTrue result → HasAll from to (owned_at self.now) }
+    {
+        match self {
+            Block::Owned(_) => self.owns_all(from, to),
+            Block::Empty | Block::Shared(_) | Block::Mixed(_) => false,
+        }
     }
 
     /// Returns what is owned, without the copies.

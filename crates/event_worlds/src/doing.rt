@@ -12,6 +12,7 @@ use crate::error::EventError;
 use crate::next::kind_of_run;
 use task_run::job::Job;
 use task_run::result::TaskResult;
+use task_run::rooms::Rooms;
 use task_run::run::Run;
 use task_run::start::Start;
 use task_run::turn::{Done, Paused, Step, Turn};
@@ -163,9 +164,10 @@ pub(crate) fn take_step<'p>(job: Job<'p>, run: &mut Run<'p>) -> Result<(), Event
     if !kind_of_run(run).is_step() {
         return Err(EventError::Illegal);
     }
+    let mut rooms = Rooms::new(job.alloc);
     'turns: loop {
         let steps = run.thread.steps;
-        match run.step(job.accepted) {
+        match run.step(job.accepted, &mut rooms) {
             Ok(Step::Did(done)) => match done {
                 Done::Gone => {
                     if run.thread.steps < steps {

@@ -16,6 +16,14 @@ use Rattle.gather.specs.declared.error.GatherError.TheVariants.{Lost, Double, St
 use Rattle.gather.proofs.Turns.{settle-opened, comes_to-opened, comes_to-filled, comes_to-twice}
 use Rattle.gather.proofs.Wholes.{total-push, total-filled, owned-full, Fit-last, whole-opened, whole-filled}
 
+-- one after the other
+pub leads-both : (g h i : Gathering) → Leads g h → Leads h i → Leads g i
+leads-both g h i first second = record {
+  comes = second.comes ∙ first.comes;
+  owned = λ q. second.owned q ∙ first.owned q;
+  whole = λ w. second.whole (first.whole w);
+}
+
 -- a hole was opened
 pub leads-opened : (rs left : List TaskResult) (ws vs : List Waiting) (w : Waiting) (x : TaskResult) (f : Part) (path : List ℕ)
     → w.hole.path ≡ path → take path rs ≡ Some (x, left) → vs ≡ ws ++ w ∷ [] → f ≡ opened x

@@ -1,6 +1,7 @@
 -- How a stage of the gathering was reached.
 use Rattle.std.specs.Prelude.{ℕ, ◌+◌, ◌≡◌, List, [], ◌∷◌, ◌++◌, map, ◌||◌}
 use Rattle.sections.specs.Place.{Place}
+use Rattle.types.specs.declared.path.Path.{Path}
 use Rattle.task_run.specs.Results.{Listed, TaskResult, returned}
 use Rattle.task_run.specs.Lists.{Each, Inserted}
 use Rattle.gather.specs.Parts.{Part, Waiting, Gathering, unopened}
@@ -37,6 +38,10 @@ pub record IsReached (start : TaskResult) (rs : List TaskResult) (used : List (L
 -- the paths of the results that were used
 abbrev pub used_by : Results → List (List ℕ)
 used_by r = map (λ p. p.turns.items) r.used.items
+
+-- and one more
+abbrev pub used_with : Results → Path → List (List ℕ)
+used_with r path = used_by r ++ path.turns.items ∷ []
 
 -- a gathering continues to another one, in whichever way the first was reached
 abbrev pub GoesOn : (used : List (List ℕ)) → Gathering → (more : List (List ℕ)) → Gathering → Type 0

@@ -1,5 +1,5 @@
 -- Stages of the gathering in Rust, without their locations in memory.
-use Rattle.std.specs.Prelude.{ℕ, ◌+◌, ◌*◌, ◌≡◌, ◌||◌, List, [], map, length, Some}
+use Rattle.std.specs.Prelude.{ℕ, ◌+◌, ◌*◌, ◌≡◌, ◌||◌, List, [], ◌∷◌, ◌++◌, map, length, Some}
 use Rattle.std.specs.Vec.{vec_len}
 use Rattle.sections.specs.Covers.{has}
 use Rattle.sections.specs.Place.{Place}
@@ -69,6 +69,12 @@ pub record Ends (g : Stage) (s : rSettled) : Type 0 where
 abbrev pub gathering_before : Stage → rListed → Gathering
 gathering_before g hole =
     gathered (left g.results.unused) g.waiting.items (unopened (waiting_for g.filling hole))
+
+-- a stage in which the result of a hole is opened, while its part waits
+abbrev pub gathering_with : Stage → rListed → Filling → Gathering
+gathering_with g hole opened =
+    gathered (left g.results.unused)
+    (g.waiting.items ++ record { filling = g.filling; hole = hole } ∷ []) (part opened)
 
 -- no hole is left, and no result waits
 abbrev pub IsFull : Stage → Type 0

@@ -9,10 +9,11 @@ ghost use Rattle.gather.specs.GivesBack.{GiveBack, all_owned};
 ghost use Rattle.types.specs.Translation.{is_path};
 ghost use Rattle.gather.specs.PartRefusal.{TellsLeftOver};
 ghost use Rattle.gather.specs.Parts.{IsWhole, comes_to};
-ghost use Rattle.gather.specs.Reached.{GoesOn, IsOwnCase, used_by};
+ghost use Rattle.gather.specs.Reached.{GoesOn, IsOwnCase, used_by, used_with};
 ghost use Rattle.gather.specs.Refusal.{IsCaseOf, Refuses};
-ghost use Rattle.gather.specs.Stages.{AreClear, Ends, IsFull, Leads, gathering as stage_of};
-ghost use Rattle.gather.specs.Stages.{gathering_before as stage_before, turns_of};
+ghost use Rattle.gather.specs.Stages.{AreClear, Ends, IsClear, IsFull, Leads, gathering as stage_of};
+ghost use Rattle.gather.specs.Stages.{gathering_before as stage_before, gathering_with as stage_with};
+ghost use Rattle.gather.specs.Stages.{turns_of};
 
 use crate::error::GatherError;
 use crate::filling::{Filling, WaitingResult};
@@ -61,11 +62,9 @@ pub fn settle(
         unused,
         used: Vec::new(alloc),
     };
-    // Mostly a single result waits. A vector that grows has room for four at first, a large block.
-    let waiting = Vec::with_capacity(alloc, 1)?;
     let mut stage = Stage {
         results,
-        waiting,
+        waiting: Vec::new(alloc),
         filling,
     };
     'turns: while stage.turn(alloc)? {}
@@ -95,10 +94,12 @@ impl Stage {
         }
     }
 
-    /// Opens the result of a hole, while the current part waits.
+    /// Opens the result of a hole, while the current part waits. A result without holes is filled in
+    /// at once, so nothing waits for it.
     fn open(&mut self, alloc: Global, hole: Listed) -> Result<(), GatherError>
         ensures leads { OnOk result (Leads (stage_before self.old hole) (stage_of self.new)) }
-        ensures clear { OnOk result (AreClear self.old → AreClear self.new) }
+        ensures clear { OnOk result (IsWhole (stage_before self.old hole)
+            → AreClear self.old → AreClear self.new) }
         ensures reached { OnOk result (GoesOn (used_by self.old.results) (stage_before self.old hole)
             (used_by self.new.results) (stage_of self.new)) }
         ensures fewer { OnOk result (turns_of self.new < turns_of self.old) }
@@ -110,12 +111,34 @@ impl Stage {
             None => Err(GatherError::Lost(hole.path)),
             Some(task) => {
                 let (opened, path) = Filling::of(alloc, task);
+                if opened.holes.is_empty() {
+                    return self.fill_at_once(hole, opened, path);
+                }
                 let filling = std::mem::replace(&mut self.filling, opened);
                 self.waiting.push(WaitingResult { filling, hole })?;
                 self.results.used.push(path)?;
                 Ok(())
             }
         }
+    }
+
+    /// Fills a hole of the current part with an opened result that has no holes.
+    fn fill_at_once(&mut self, hole: Listed, opened: Filling, path: Path) -> Result<(), GatherError>
+        requires { opened.holes.items ≡ [] }
+        ensures leads { OnOk result (Leads (stage_with self.old hole opened) (stage_of self.new)) }
+        ensures clear { OnOk result (IsWhole (stage_with self.old hole opened)
+            → AreClear self.old → IsClear opened → AreClear self.new) }
+        ensures reached { OnOk result (GoesOn (used_with self.old.results path)
+            (stage_with self.old hole opened) (used_by self.new.results) (stage_of self.new)) }
+        ensures as_many { OnOk result (turns_of self.new ≡ turns_of self.old) }
+        ensures refused { IfErr result (Refuses (comes_to (stage_with self.old hole opened))) }
+        ensures own_case { IfErr result (IsOwnCase (used_with self.old.results path)
+            (stage_with self.old hole opened)) }
+    {
+        self.results.used.push(path)?;
+        let child = opened.close()?;
+        self.filling.fill(hole, child)?;
+        Ok(())
     }
 
     /// Fills the hole of the waiting result with the current part, whose own holes are all filled.

@@ -25,9 +25,11 @@ use crate::frame::{Outer, TaskFrame};
 use crate::memory::TaskMemory;
 use crate::needed::Needed;
 use crate::result::{Listed, Settled, TaskResult};
+use crate::rooms::{Rooms, no_environment};
 use crate::run::Run;
 use crate::turn::{Done, Paused, Step, Turn};
 use holdings::error::HoldError;
+use holdings::holdings::Holdings;
 use plain_code::pieces::ProgramCode;
 use sections::window::Window;
 use statement_steps::flow::Flow;
@@ -37,6 +39,10 @@ use std::alloc::AllocError;
 use types::child_number::ChildNumber;
 use types::code::{Label, Stmt, StmtKind, Truth};
 use types::fault::Fault;
+use types::path::Path;
+
+/// The largest room for frames that an ended run keeps.
+const MOST_FRAMES: usize = 192;
 
 impl<'p> Run<'p> {
     ghost use Rattle.task_run.specs.RunTurns.{CanAct, CanTurn, DidAct, DidNext, DidTurn, GoesOn, HasRoom};
@@ -51,6 +57,7 @@ impl<'p> Run<'p> {
         &mut self,
         needed: &N,
         code: &ProgramCode<'p>,
+        rooms: &mut Rooms<'p>,
     ) -> Result<Step<'p>, HoldError>
         requires code { IsCodeOfProgram (program_of self.old.plan.program.now) code.now }
         requires can { (r : AnyRun) → GoesOn (N.needs needed.now) self.old r
@@ -63,7 +70,7 @@ impl<'p> Run<'p> {
         'turns: loop {
             match self.next_piece(code) {
                 Some((number, rest)) => self.do_at_once(code, number, rest)?,
-                None => match self.step(needed)? {
+                None => match self.step(needed, rooms)? {
                     Step::Did(done) => match done {
                         Done::Gone => {}
                         Done::Exceeded => {}
@@ -82,14 +89,19 @@ impl<'p> Run<'p> {
         ensures refused { IfErr result (λ e. e ≡ OutOfMemory) }
     {
         let mut run = self;
-        match run.step(needed)? {
+        let mut rooms = Rooms::new(run.plan.alloc);
+        match run.step(needed, &mut rooms)? {
             Step::Did(done) => Ok(turned(run, done)),
-            Step::AtEnd => Ok(run.end()?),
+            Step::AtEnd => Ok(run.end(&mut rooms)?),
         }
     }
 
     /// Takes one turn in place. At the end of a finish, or at its own end, the run is unchanged.
-    pub fn step<N: Needed>(&mut self, needed: &N) -> Result<Step<'p>, HoldError>
+    pub fn step<N: Needed>(
+        &mut self,
+        needed: &N,
+        rooms: &mut Rooms<'p>,
+    ) -> Result<Step<'p>, HoldError>
         requires { CanTurn (N.needs needed.now) (N.IsAsync needed.now) self.old }
         ensures step { IfOk result (λ s. IsStep (N.needs needed.entry.now) self.old s self.new) }
         ensures refused { IfErr result (λ e. e ≡ OutOfMemory) }
@@ -99,12 +111,12 @@ impl<'p> Run<'p> {
             Some(top) => match top {
                 TaskFrame::Rest(block) => match block.split_first() {
                     None => {
-                        self.take_off()?;
+                        self.take_off(rooms)?;
                         Ok(Step::Did(Done::Gone))
                     }
                     Some((stmt, rest)) => {
                         *block = rest;
-                        let done = self.first(needed, stmt)?;
+                        let done = self.first(needed, stmt, rooms)?;
                         Ok(Step::Did(done))
                     }
                 },
@@ -133,7 +145,7 @@ impl<'p> Run<'p> {
                     Ok(Step::Did(Done::Gone))
                 }
                 TaskFrame::EndCall { .. } => {
-                    self.take_off()?;
+                    self.take_off(rooms)?;
                     Ok(Step::Did(Done::Gone))
                 }
             },
@@ -142,7 +154,12 @@ impl<'p> Run<'p> {
 
     /// Runs the first statement of a block, whose rest is the top frame, if the flow is on and a
     /// step is left.
-    fn first<N: Needed>(&mut self, needed: &N, stmt: &'p Stmt) -> Result<Done<'p>, HoldError>
+    fn first<N: Needed>(
+        &mut self,
+        needed: &N,
+        stmt: &'p Stmt,
+        rooms: &mut Rooms<'p>,
+    ) -> Result<Done<'p>, HoldError>
         requires few { self.old.thread.spawned + self.old.thread.steps ≤ self.old.plan.budget.steps }
         requires can { CanAct (N.needs needed.now) (N.IsAsync needed.now) stmt.now.label
             (code_of stmt.now.kind) self.old }
@@ -155,7 +172,7 @@ impl<'p> Run<'p> {
             return Ok(Done::Gone);
         }
         if self.thread.takes_step() {
-            self.act(needed, stmt)
+            self.act(needed, stmt, rooms)
         } else {
             Ok(Done::Exceeded)
         }
@@ -215,7 +232,12 @@ impl<'p> Run<'p> {
 
     /// Runs a statement whose step has been taken.
     #[inline(always)]
-    fn act<N: Needed>(&mut self, needed: &N, stmt: &'p Stmt) -> Result<Done<'p>, HoldError>
+    fn act<N: Needed>(
+        &mut self,
+        needed: &N,
+        stmt: &'p Stmt,
+        rooms: &mut Rooms<'p>,
+    ) -> Result<Done<'p>, HoldError>
         requires room { HasRoom self.old }
         requires can { CanAct (N.needs needed.now) (N.IsAsync needed.now) stmt.now.label
             (code_of stmt.now.kind) self.old }
@@ -251,10 +273,10 @@ impl<'p> Run<'p> {
                 values,
                 sections,
             } => {
-                self.call(label, *procedure, values, sections)?;
+                self.call(label, *procedure, values, sections, rooms)?;
                 Ok(Done::Gone)
             }
-            StmtKind::Async { body } => self.spawn(needed, label, body),
+            StmtKind::Async { body } => self.spawn(needed, label, body, rooms),
             StmtKind::Finish { body } => {
                 self.enter(body)?;
                 Ok(Done::Entered)
@@ -277,6 +299,7 @@ impl<'p> Run<'p> {
         needed: &N,
         label: Label,
         body: &'p [Stmt],
+        rooms: &mut Rooms<'p>,
     ) -> Result<Done<'p>, HoldError>
         requires room { HasRoom self.old }
         requires can { CanAct (N.needs needed.now) (N.IsAsync needed.now) label
@@ -294,8 +317,8 @@ impl<'p> Run<'p> {
         let windows = environment.windows_of(alloc, needed.writes(label, body))?;
         let store = &mut self.thread.store;
         let holdings = store.part_for(alloc, environment, &windows, needed.reads(label, body))?;
-        let start = self.start(body, holdings)?;
-        let start = Box::new(self.plan.alloc, start)?;
+        let start = self.start(body, holdings, rooms)?;
+        let start = rooms.boxed(start)?;
         let number = ChildNumber::after(self.thread.spawned);
         let listed = Listed {
             path: self.thread.path.child(number)?,
@@ -308,18 +331,22 @@ impl<'p> Run<'p> {
         Ok(Done::Spawned(start))
     }
 
-    /// Takes the turn of a run at the end of a finish, or at its own end.
-    pub fn end(self) -> Result<Turn<'p>, AllocError>
-        requires { IsAtEnd self }
-        ensures turn { IfOk result (λ t. (needs : Codes → Needs) → IsTurn needs self.entry t) }
+    /// Takes the turn of a run at the end of a finish, or at its own end, in place. What the turn
+    /// returns is moved out of the run. What is left is good only for `begin_again`.
+    pub fn end(&mut self, rooms: &mut Rooms<'p>) -> Result<Turn<'p>, AllocError>
+        requires { IsAtEnd self.old }
+        ensures turn { IfOk result (λ t. (needs : Codes → Needs) → IsTurn needs self.old t) }
         ensures ends { IfOk result IsEnding }
     {
-        let mut run = self;
-        match run.frames.pop() {
-            None => Ok(Turn::Ended(run.result())),
+        match self.frames.pop() {
+            None => {
+                let made = self.result();
+                self.leave(rooms);
+                Ok(Turn::Ended(made))
+            }
             Some(frame) => match frame {
                 TaskFrame::EndFinish(outer) => {
-                    let (paused, result) = run.pause(outer)?;
+                    let (paused, result) = self.pause(outer)?;
                     Ok(Turn::EndsFinish(paused, result))
                 }
                 TaskFrame::Rest(_)
@@ -331,82 +358,63 @@ impl<'p> Run<'p> {
         }
     }
 
-    /// Returns what the task has made since its innermost open finish began, or since its own
+    /// Moves out what the task has made since its innermost open finish began, or since its own
     /// start.
-    fn result(self) -> TaskResult
-        ensures { (fs : List (Left Own)) (x : Own) → Shows self.entry fs x
-            → task_result result ≡ result_of (with_own x (state_of self.entry.thread)) }
+    fn result(&mut self) -> TaskResult
+        ensures { (fs : List (Left Own)) (x : Own) → Shows self.old fs x
+            → task_result result ≡ result_of (with_own x (state_of self.old.thread)) }
     {
-        let Run {
-            thread,
-            pending,
-            ..
-        } = self;
-        let Thread {
-            flow,
-            store,
-            lines,
-            faults,
-            path,
-            ..
-        } = thread;
-        let TaskMemory { holdings } = store;
+        let alloc = self.plan.alloc;
+        let stopped = is_stopped(self.thread.flow);
+        let path = std::mem::replace(&mut self.thread.path, Path::root(alloc));
+        let holdings = std::mem::replace(&mut self.thread.store.holdings, Holdings::none(alloc));
+        let lines = std::mem::replace(&mut self.thread.lines, Vec::new(alloc));
+        let faults = std::mem::replace(&mut self.thread.faults, Vec::new(alloc));
+        let children = std::mem::replace(&mut self.pending, Vec::new(alloc));
         TaskResult {
             path,
-            stopped: is_stopped(flow),
+            stopped,
             holdings,
             lines,
             faults,
-            children: pending,
+            children,
         }
     }
 
+    /// Leaves its environment to the next tasks. The room of its frames stays, unless a deep
+    /// recursion has made it large.
+    fn leave(&mut self, rooms: &mut Rooms<'p>) {
+        let alloc = self.plan.alloc;
+        if self.frames.capacity() > MOST_FRAMES {
+            self.frames = Vec::new(alloc);
+        }
+        let environment = std::mem::replace(&mut self.thread.environment, no_environment(alloc));
+        rooms.keep_environment(environment);
+    }
+
     /// Splits the run at the end of a finish into the waiting run and its result.
-    fn pause(self, outer: Outer) -> Result<(Paused<'p>, TaskResult), AllocError>
+    fn pause(&mut self, outer: Outer) -> Result<(Paused<'p>, TaskResult), AllocError>
         ensures { IfOk result (λ t. (before : State Own) (fs : List (Left Own)) (x : Own)
-            → IsEnd outer before → Shows self.entry fs x
-            → WaitsAs self.entry fs before (with_own x (state_of self.entry.thread))
+            → IsEnd outer before → Shows self.old fs x
+            → WaitsAs self.old fs before (with_own x (state_of self.old.thread))
             (EndsFinish t.0 t.1)) }
     {
-        let Run {
-            plan,
-            thread,
-            frames,
-            pending,
-        } = self;
-        let Thread {
-            flow,
-            store,
-            lines,
-            faults,
-            path,
-            spawned,
-            environment,
-            steps,
-            nest,
-            spare,
-        } = thread;
-        let TaskMemory { holdings } = store;
-        let result = TaskResult {
-            path: path.copied(plan.alloc)?,
-            stopped: is_stopped(flow),
-            holdings,
-            lines,
-            faults,
-            children: pending,
-        };
+        let alloc = self.plan.alloc;
+        let path = self.thread.path.copied(alloc)?;
+        let frames = std::mem::replace(&mut self.frames, Vec::new(alloc));
+        let environment = std::mem::replace(&mut self.thread.environment, no_environment(alloc));
         let paused = Paused {
-            plan,
+            plan: self.plan,
             path,
-            spawned,
+            spawned: self.thread.spawned,
             environment,
-            steps,
-            nest,
-            spare,
+            steps: self.thread.steps,
+            nest: self.thread.nest,
             frames,
             outer,
         };
-        Ok((paused, result))
+        let made = self.result();
+        Ok((paused, made))
     }
 }
 
@@ -437,7 +445,7 @@ impl<'p> Paused<'p> {
             environment: self.environment,
             steps: self.steps,
             nest: self.nest,
-            spare: self.spare,
+            spare: Vec::new(self.plan.alloc),
         };
         Ok(Run {
             plan: self.plan,

@@ -47,7 +47,6 @@ impl<'p> Paused<'p> {
             environment: self.environment.copied(alloc)?,
             steps: self.steps,
             nest: self.nest,
-            spare: Vec::new(alloc),
             frames: frames(alloc, &self.frames)?,
             outer: self.outer.clone(alloc)?,
         })

@@ -11,6 +11,7 @@ pub mod laws;
 pub mod memory;
 pub mod needed;
 pub mod result;
+pub mod rooms;
 pub mod run;
 pub mod start;
 pub mod turn;

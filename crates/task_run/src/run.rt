@@ -18,6 +18,7 @@ use crate::copy::faults as copied_faults;
 use crate::frame::{Outer, TaskFrame};
 use crate::memory::TaskMemory;
 use crate::result::Listed;
+use crate::rooms::Rooms;
 use crate::start::Start;
 use holdings::holdings::Holdings;
 use sections::id::SectionId;
@@ -25,7 +26,7 @@ use sections::window::Window;
 use statement_steps::flow::Flow;
 use statement_steps::thread::{Plan, Thread};
 use statement_steps::turns::TurnsToCome;
-use std::alloc::{AllocError, Global};
+use std::alloc::AllocError;
 use types::child_number::ChildNumber;
 use types::code::{Label, Number, Pieces, Procedure, Stmt, Truth};
 use types::fault::Fault;
@@ -80,8 +81,33 @@ impl<'p> Run<'p> {
         })
     }
 
+    /// Makes a run that has ended the run of another task, at its start. Nothing of the old task is
+    /// left but the room of its frames.
+    pub fn begin_again(&mut self, plan: Plan<'p>, start: Start<'p>) -> Result<(), AllocError>
+        ensures begun { OnOk result (IsAt self.new
+            (begun plan.entry.budget.steps (start_of start.entry))) }
+        ensures plan { OnOk result (self.new.plan ≡ plan.entry) }
+        ensures nest { OnOk result (self.new.thread.nest ≡ start.entry.nest) }
+    {
+        self.frames.clear();
+        self.frames.reserve(FIRST_FRAMES)?;
+        self.frames.push(TaskFrame::Rest(start.body))?;
+        self.pending.clear();
+        self.thread.lines.clear();
+        self.thread.faults.clear();
+        self.plan = plan;
+        self.thread.flow = Flow::On;
+        self.thread.store.holdings = start.holdings;
+        self.thread.path = start.path;
+        self.thread.spawned = 0;
+        self.thread.environment = start.environment;
+        self.thread.steps = plan.budget.steps;
+        self.thread.nest = start.nest;
+        Ok(())
+    }
+
     /// Takes the top frame off. This frame does nothing, or restores the caller's environment.
-    pub(crate) fn take_off(&mut self) -> Result<(), AllocError>
+    pub(crate) fn take_off(&mut self, rooms: &mut Rooms<'p>) -> Result<(), AllocError>
         ensures { OnOk result (Turns taken_off self.old self.new) }
     {
         match self.frames.pop() {
@@ -89,7 +115,7 @@ impl<'p> Run<'p> {
             Some(frame) => match frame {
                 TaskFrame::EndCall { environment } => {
                     let callee = std::mem::replace(&mut self.thread.environment, environment);
-                    self.thread.spare.push(callee)?;
+                    rooms.keep_environment(callee);
                     Ok(())
                 }
                 TaskFrame::Rest(_)
@@ -216,12 +242,13 @@ impl<'p> Run<'p> {
         procedure: ProcedureId,
         values: &[Number],
         sections: &[SectionId],
+        rooms: &mut Rooms<'p>,
     ) -> Result<(), AllocError>
         ensures { OnOk result (Acts label (Call procedure.number
             (map number_of values.now) (map section_of sections.now)) self.old self.new) }
     {
         let (procedure, body) = procedure_of(self.plan, procedure);
-        let room = room_for(&mut self.thread.spare, self.plan.alloc, procedure)?;
+        let room = rooms.room_for(procedure)?;
         let Environment { scalars, windows } = room;
         let values = match self.thread.numbers(scalars, values)? {
             Err(kind) => return self.thread.fault(self.plan, label, kind),
@@ -239,6 +266,7 @@ impl<'p> Run<'p> {
         &self,
         body: &'p [Stmt],
         holdings: Holdings,
+        rooms: &mut Rooms<'p>,
     ) -> Result<Start<'p>, AllocError>
         requires few { self.now.thread.spawned < 1000000000 }
         requires nest { 0 < self.now.thread.nest }
@@ -251,7 +279,7 @@ impl<'p> Run<'p> {
           path = self.now.thread.path.turns.items ++ (self.now.thread.spawned + 1) ∷ [];
         }) }
     {
-        let environment = self.thread.environment.copied(self.plan.alloc)?;
+        let environment = rooms.copied(&self.thread.environment)?;
         let number = ChildNumber::after(self.thread.spawned);
         let path = self.thread.path.child(number)?;
         Ok(Start {
@@ -318,23 +346,6 @@ impl<'p> Run<'p> {
                 Ok(())
             }
         }
-    }
-}
-
-/// Returns an environment whose allocations can be reused, or a new one with room for all slots and
-/// sections of a procedure, so it grows in no step.
-#[inline(always)]
-fn room_for(
-    spare: &mut Vec<Environment>,
-    alloc: Global,
-    procedure: &Procedure,
-) -> Result<Environment, AllocError> {
-    match spare.pop() {
-        Some(environment) => Ok(environment),
-        None => Ok(Environment {
-            scalars: Vec::with_capacity(alloc, procedure.slots)?,
-            windows: Vec::with_capacity(alloc, procedure.sections.len())?,
-        }),
     }
 }
 

@@ -34,7 +34,6 @@ pub struct Paused<'p> {
     pub environment: Environment,
     pub steps: u32,
     pub nest: u32,
-    pub spare: Vec<Environment>,
     pub frames: Vec<TaskFrame<'p>>,
     /// Its lines and faults, and the tasks that it had listed, when the finish began.
     pub outer: Outer,

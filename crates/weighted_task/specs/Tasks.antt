@@ -1,5 +1,6 @@
 -- Invariants of tasks: they are of their job, with a weight in each scope that they belong to.
 use Rattle.std.specs.Prelude.{ℕ, ◌≡◌, ◌+◌, ◌≤◌, List, length, [], Some}
+use Rattle.types.specs.Translation.{program}
 use Rattle.task_run.specs.MayRun.{MayRun, MayStart}
 use Rattle.task_run.specs.Reached.{begun}
 use Rattle.task_run.specs.Runs.{root, IsTaskResult}
@@ -7,6 +8,7 @@ use Rattle.task_run.specs.Standings.{IsAt}
 use Rattle.task_run.specs.Translation.{start, task_result}
 use Rattle.task_run.specs.declared.result.TaskResult.{TaskResult as Made}
 use Rattle.task_run.specs.declared.run.Run.{Run}
+use Rattle.task_run.specs.declared.start.Start.{Start}
 use Rattle.task_run.specs.Jobs.{program_of, lists_of, budget_of, IsJob}
 use Rattle.task_run.specs.declared.job.Job.{Job}
 use Rattle.weighted_task.specs.Finishes.{open_finishes}
@@ -50,6 +52,15 @@ pub record IsFirst (j : Job) (r : Run) (at : ScopeMark) (b : Body) : Type 0 wher
   pub scope : b.scope ≡ at
   pub outer : b.outer.items ≡ []
   pub opened : b.opened ≡ 0
+
+-- a body whose task is at this start, in this scope
+pub record StartsAs (j : Job) (s : Start) (at : ScopeMark) (b : Body) : Type 0 where
+  pub run : Run
+  pub first : IsFirst j run at b
+  pub begun : IsAt run (begun j.budget.steps (start s))
+  pub nest : run.thread.nest ≡ s.nest
+  pub budget : run.plan.budget ≡ j.budget
+  pub program : program run.plan.program.now ≡ program_of j
 
 -- the root at its start
 pub record IsRootBody (j : Job) (b : Body) : Type 0 where

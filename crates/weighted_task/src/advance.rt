@@ -12,19 +12,25 @@ ghost use Rattle.weighted_task.specs.Turns.{Parts, RunsToEnd, TakesOneTurn, Take
 ghost use Rattle.weighted_task.specs.Units.{held, units_after, units_of};
 
 use crate::finish::{Ending, Entering, Owner, Parked};
+use crate::rooms::TaskRooms;
 use crate::stake::{ScopeMark, Share, Stake};
 use crate::task::{Body, Child, Task};
 use crate::turn::{Wanting, WeightedResult, WeightedTurn};
 use plain_code::pieces::ProgramCode;
 use std::alloc::AllocError;
 use task_run::result::TaskResult as RunResult;
+use task_run::rooms::Rooms;
 use task_run::start::Start;
 use task_run::turn::{Done, Step, Turn as RunTurn};
 
 impl<'p> Task<'p> {
     /// Takes turns as long as nobody else sees them. Returns the first turn that is more. Uses the
     /// program's flat code where it can.
-    pub fn go(self, code: &ProgramCode<'p>) -> Result<WeightedTurn<'p>, AllocError>
+    pub fn go(
+        self,
+        code: &ProgramCode<'p>,
+        rooms: &mut TaskRooms<'p>,
+    ) -> Result<WeightedTurn<'p>, AllocError>
         requires task { IsTask self }
         requires code { IsCodeOfProgram (program_of self.body.value.job) code.now }
         ensures turn { IfOk result (TakesTurn self.entry) }
@@ -32,30 +38,30 @@ impl<'p> Task<'p> {
         ensures units { IfOk result (λ t. units_after t ≡ units_of self.entry) }
     {
         let Task { mut body, share } = self;
-        match body.go(code)? {
+        match body.go(code, &mut rooms.runs)? {
             Step::Did(done) => did(body, share, done),
-            Step::AtEnd => at_end(body, share),
+            Step::AtEnd => at_end(body, share, rooms),
         }
     }
 
     /// Takes one turn.
-    pub fn advance(self) -> Result<WeightedTurn<'p>, AllocError>
+    pub fn advance(self, rooms: &mut TaskRooms<'p>) -> Result<WeightedTurn<'p>, AllocError>
         requires task { IsTask self }
         ensures turn { IfOk result (TakesOneTurn self.entry) }
         ensures tasks { IfOk result AreTasks }
         ensures units { IfOk result (λ t. units_after t ≡ units_of self.entry) }
     {
         let Task { mut body, share } = self;
-        match body.advance()? {
+        match body.advance(&mut rooms.runs)? {
             Step::Did(done) => did(body, share, done),
-            Step::AtEnd => at_end(body, share),
+            Step::AtEnd => at_end(body, share, rooms),
         }
     }
 }
 
 impl<'p> Body<'p> {
     /// Runs on in place, as far as nobody else sees it.
-    fn go(&mut self, code: &ProgramCode<'p>) -> Result<Step<'p>, AllocError>
+    fn go(&mut self, code: &ProgramCode<'p>, rooms: &mut Rooms<'p>) -> Result<Step<'p>, AllocError>
         requires body { IsBody self.old }
         requires code { IsCodeOfProgram (program_of self.old.job) code.now }
         ensures { IfOk result (λ s. GoesInPlace self.old s self.new) }
@@ -64,14 +70,14 @@ impl<'p> Body<'p> {
         let Some(run) = &mut self.run else {
             unreachable!()
         };
-        match run.go(accepted, code) {
+        match run.go(accepted, code, rooms) {
             Ok(step) => Ok(step),
             Err(_) => Err(AllocError),
         }
     }
 
     /// Takes one turn of its run in place.
-    fn advance(&mut self) -> Result<Step<'p>, AllocError>
+    fn advance(&mut self, rooms: &mut Rooms<'p>) -> Result<Step<'p>, AllocError>
         requires { IsBody self.old }
         ensures { IfOk result (λ s. TurnsInPlace self.old s self.new) }
     {
@@ -79,7 +85,7 @@ impl<'p> Body<'p> {
         let Some(run) = &mut self.run else {
             unreachable!()
         };
-        match run.step(accepted) {
+        match run.step(accepted, rooms) {
             Ok(step) => Ok(step),
             Err(_) => Err(AllocError),
         }
@@ -147,7 +153,11 @@ fn entered<'p>(body: Box<Body<'p>>, share: Share) -> Result<Entering<'p>, AllocE
 }
 
 /// Returns the turn of a task whose run is at the end of a finish, or has finished.
-fn at_end<'p>(body: Box<Body<'p>>, share: Share) -> Result<WeightedTurn<'p>, AllocError>
+fn at_end<'p>(
+    body: Box<Body<'p>>,
+    share: Share,
+    rooms: &mut TaskRooms<'p>,
+) -> Result<WeightedTurn<'p>, AllocError>
     requires end { RunsToEnd body.value }
     ensures ends { IfOk result (EndsBy body.entry.value share.weight) }
     ensures tasks { IfOk result AreTasks }
@@ -155,15 +165,15 @@ fn at_end<'p>(body: Box<Body<'p>>, share: Share) -> Result<WeightedTurn<'p>, All
         ≡ share.weight + held body.entry.value.outer.items) }
 {
     let mut body = body;
-    let Some(run) = body.run.take() else {
+    let Some(run) = &mut body.run else {
         unreachable!()
     };
-    match run.end()? {
+    match run.end(&mut rooms.runs)? {
         RunTurn::EndsFinish(paused, made) => {
             let owner = Owner::Finish(paused);
-            Ok(WeightedTurn::EndsFinish(ending(body, share, owner, made)?))
+            Ok(WeightedTurn::EndsFinish(ending(body, share, owner, made, rooms)?))
         }
-        RunTurn::Ended(made) => ended(body, share, made),
+        RunTurn::Ended(made) => ended(body, share, made, rooms),
         RunTurn::Going(_) | RunTurn::Spawns(_, _) | RunTurn::EntersFinish(_) | RunTurn::Over(_) => {
             unreachable!()
         }
@@ -177,16 +187,16 @@ fn ending<'p>(
     share: Share,
     owner: Owner<'p>,
     made: RunResult,
+    rooms: &mut TaskRooms<'p>,
 ) -> Result<Ending<'p>, AllocError>
     ensures { IfOk result (IsEndOf body.entry.value share.weight owner.entry made) }
 {
-    let Body {
-        job,
-        scope,
-        outer,
-        opened,
-        ..
-    } = Box::into_inner(body);
+    let mut body = body;
+    let job = body.job;
+    let scope = body.scope;
+    let opened = body.opened;
+    let outer = std::mem::replace(&mut body.outer, Vec::new(job.alloc));
+    rooms.keep(body);
     let parked = Parked {
         job,
         owner,
@@ -206,13 +216,17 @@ fn ended<'p>(
     body: Box<Body<'p>>,
     share: Share,
     made: RunResult,
+    rooms: &mut TaskRooms<'p>,
 ) -> Result<WeightedTurn<'p>, AllocError>
     ensures { IfOk result (Becomes body.entry.value share.weight (Ended made)) }
 {
     if made.path.turns.is_empty() {
-        return Ok(WeightedTurn::EndsFinish(ending(body, share, Owner::Main, made)?));
+        let ending = ending(body, share, Owner::Main, made, rooms)?;
+        return Ok(WeightedTurn::EndsFinish(ending));
     }
-    let Body { job, scope, .. } = Box::into_inner(body);
+    let job = body.job;
+    let scope = body.scope;
+    rooms.keep(body);
     Ok(WeightedTurn::Ended(WeightedResult {
         job,
         made,

@@ -9,6 +9,7 @@ mod advance;
 pub mod finish;
 pub mod laws;
 mod outcome;
+pub mod rooms;
 pub mod stake;
 pub mod task;
 pub mod turn;

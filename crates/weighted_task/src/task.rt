@@ -1,9 +1,10 @@
 //! Tasks, and the children that they spawn.
 
-ghost use Rattle.std.specs.Prelude.{◌≡◌, IfErr, IfOk, IfSome};
+ghost use Rattle.std.specs.Prelude.{◌≡◌, IfErr, IfOk, IfSome, OnOk};
 ghost use Rattle.task_run.specs.Jobs.{IsJob};
-ghost use Rattle.weighted_task.specs.Tasks.{IsBegun, IsChild, IsFirst, IsRoot, IsRootBody, IsTask};
+ghost use Rattle.weighted_task.specs.Tasks.{IsBegun, IsChild, IsRoot, IsRootBody, IsTask, StartsAs};
 
+use crate::rooms::TaskRooms;
 use crate::stake::{ScopeMark, Share, Stake};
 use std::alloc::AllocError;
 use task_run::job::Job;
@@ -24,7 +25,7 @@ pub struct Task<'p> {
 #[derive(Drop)]
 pub struct Body<'p> {
     pub job: Job<'p>,
-    /// None once it has reached an end.
+    /// Once it has reached an end, what is left of it is good only for the start of another task.
     pub run: Option<Run<'p>>,
 
     // The scopes that it belongs to.
@@ -88,7 +89,7 @@ impl<'p> Task<'p> {
 
 impl<'p> Child<'p> {
     /// Returns the task, before its first turn.
-    pub fn begin(self) -> Result<Task<'p>, AllocError>
+    pub fn begin(self, rooms: &mut TaskRooms<'p>) -> Result<Task<'p>, AllocError>
         requires child { IsChild self }
         ensures task { IfOk result (IsBegun self.entry) }
     {
@@ -98,9 +99,38 @@ impl<'p> Child<'p> {
             scope,
             share,
         } = self;
-        let run = Run::begin(job.plan(), Box::into_inner(start))?;
-        let body = first_body(job, run, scope)?;
+        let start = rooms.runs.take_out(start);
+        let body = first_body(job, start, scope, rooms)?;
         Ok(Task { body, share })
+    }
+}
+
+impl<'p> Body<'p> {
+    /// Makes a body that has ended the body of another task, at its start. The run is made in its
+    /// place.
+    fn begin_again(
+        &mut self,
+        job: Job<'p>,
+        start: Start<'p>,
+        scope: ScopeMark,
+    ) -> Result<(), AllocError>
+        ensures { OnOk result (StartsAs job.entry start.entry scope self.new) }
+    {
+        self.outer.clear();
+        self.job = job;
+        self.scope = scope;
+        self.opened = 0;
+        match &mut self.run {
+            Some(run) => {
+                run.begin_again(job.plan(), start)?;
+                Ok(())
+            }
+            None => {
+                let run = Run::begin(job.plan(), start)?;
+                self.run = Some(run);
+                Ok(())
+            }
+        }
     }
 }
 
@@ -109,18 +139,42 @@ fn root_body<'p>(job: Job<'p>) -> Result<Box<Body<'p>>, AllocError>
     requires { IsJob job }
     ensures { IfOk result (λ b. IsRootBody job.entry b.value) }
 {
-    let run = Run::begin(job.plan(), job.root()?)?;
     let scope = ScopeMark {
         depth: 0,
         number: 0,
     };
-    first_body(job, run, scope)
+    new_body(job, job.root()?, scope)
 }
 
-/// Returns the body of a task that has started no finish.
-fn first_body<'p>(job: Job<'p>, run: Run<'p>, scope: ScopeMark) -> Result<Box<Body<'p>>, AllocError>
-    ensures { IfOk result (λ b. IsFirst job.entry run.entry scope b.value) }
+/// Returns the body of a task at its start, in this scope.
+fn first_body<'p>(
+    job: Job<'p>,
+    start: Start<'p>,
+    scope: ScopeMark,
+    rooms: &mut TaskRooms<'p>,
+) -> Result<Box<Body<'p>>, AllocError>
+    ensures { IfOk result (λ b. StartsAs job.entry start.entry scope b.value) }
 {
+    match rooms.body() {
+        Some(room) => {
+            let mut body = room;
+            body.begin_again(job, start, scope)?;
+            Ok(body)
+        }
+        None => new_body(job, start, scope),
+    }
+}
+
+/// Returns such a body in a new box.
+#[inline(never)]
+fn new_body<'p>(
+    job: Job<'p>,
+    start: Start<'p>,
+    scope: ScopeMark,
+) -> Result<Box<Body<'p>>, AllocError>
+    ensures { IfOk result (λ b. StartsAs job.entry start.entry scope b.value) }
+{
+    let run = Run::begin(job.plan(), start)?;
     let body = Body {
         job,
         run: Some(run),
@@ -128,5 +182,6 @@ fn first_body<'p>(job: Job<'p>, run: Run<'p>, scope: ScopeMark) -> Result<Box<Bo
         outer: Vec::new(job.alloc),
         opened: 0,
     };
-    Ok(Box::new(job.alloc, body)?)
+    let body = Box::new(job.alloc, body)?;
+    Ok(body)
 }

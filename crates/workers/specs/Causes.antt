@@ -1,5 +1,5 @@
 -- What happened, for each reason why a run has no outcome.
-use Rattle.std.specs.Prelude.{ℕ, ◌≡◌, ◌≢◌, ◌<◌, ◌≤◌, ◌⊎◌, List, Option, None, true, reverse}
+use Rattle.std.specs.Prelude.{ℕ, ◌≡◌, ◌≢◌, ◌<◌, ◌≤◌, ◌⊎◌, List, Option, None, true, IsPermutation}
 use Rattle.std.specs.Borrow.{Bor}
 use Rattle.std.specs.Global.{Global}
 use Rattle.types.specs.declared.budget.Budget.{Budget}
@@ -74,12 +74,12 @@ Happens o (NotDue c) = WasNotDue o c
 Happens o (NoOwner c) = HadNoOwner o c
 Happens o (NoScope c) = Unit {0}
 
--- results that don't settle are all of these, in their order or reversed, with that of this owner
+-- results that don't settle are all of these, in some order, with that of this owner
 abbrev pub IsOfResults : (owner : Parked) → (results : List Made) → Trouble → Type 0
 IsOfResults p rs OutOfMemory = Unit {0}
 IsOfResults p rs (RefusedPush c) = Unit {0}
 IsOfResults p rs (IssuedTooOften c) = Unit {0}
-IsOfResults p rs (Gather u) = AreUnsettled p rs u ⊎ AreUnsettled p (reverse rs) u
+IsOfResults p rs (Gather u) = (ss : List Made) × IsPermutation rs ss × AreUnsettled p ss u
 IsOfResults p rs (NotDue c) = Unit {0}
 IsOfResults p rs (NoOwner c) = Unit {0}
 IsOfResults p rs (NoScope c) = Unit {0}

@@ -10,6 +10,7 @@ mod log_guard;
 mod main_loop;
 mod open_scopes;
 mod opening;
+mod ordering;
 mod passing;
 mod pool;
 mod ready;

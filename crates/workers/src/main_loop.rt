@@ -26,7 +26,7 @@ use crate::recorded::Recording;
 use crate::scopes;
 use crate::scopes::ScopeRecorder;
 use crate::settings::Settings;
-use crate::worker::{Report, WorkerParts, WorkerState};
+use crate::worker::{Report, WorkerAtWork, WorkerParts, WorkerState};
 use finish_scope::inner::Inner;
 use finish_scope::resting::{Passing, Resting};
 use finish_scope::running::Running;
@@ -39,6 +39,7 @@ use task_run::result::TaskResult;
 use tickets::{Stub, Tickets};
 use types::outcome::Outcome;
 use weighted_task::finish::{Ending, Entering, Parked};
+use weighted_task::rooms::TaskRooms;
 use weighted_task::stake::ScopeMark;
 use weighted_task::task::{Child, Task};
 use weighted_task::turn::{WeightedResult as Ended, WeightedTurn};
@@ -70,6 +71,7 @@ impl<'p, J: Running + Recording, G: Gate> Shared<'p, J, G> {
         &self,
         rt: &R,
         number: usize,
+        rooms: &mut TaskRooms<'p>,
         open_scopes: &mut OpenScopes<'p, J>,
         task: Task<'p>,
     ) -> Result<AfterTurn<'p>, Trouble>
@@ -77,7 +79,7 @@ impl<'p, J: Running + Recording, G: Gate> Shared<'p, J, G> {
         ensures step { IfOk result (IsOwnStep J.job) }
         ensures cause { IfErr result (Happens J.job) }
     {
-        match self.next_turn(rt, task)? {
+        match self.next_turn(rt, rooms, task)? {
             WeightedTurn::Going(task) => Ok(AfterTurn::Follows(Next::Goes(task))),
             WeightedTurn::Over(task) => Ok(AfterTurn::Follows(Next::Goes(task))),
             WeightedTurn::Spawns(task, child) => { Ok(AfterTurn::Spawned(task, child)) }
@@ -105,28 +107,38 @@ impl<'p, J: Running + Recording, G: Gate> Shared<'p, J, G> {
     }
 
     /// Returns the next turn that is more than a step.
-    fn next_turn<R: Wait>(&self, rt: &R, task: Task<'p>) -> Result<WeightedTurn<'p>, Trouble>
+    fn next_turn<R: Wait>(
+        &self,
+        rt: &R,
+        rooms: &mut TaskRooms<'p>,
+        task: Task<'p>,
+    ) -> Result<WeightedTurn<'p>, Trouble>
         requires { IsOwnTask J.job task }
         ensures next { IfOk result (IsOwnTurn J.job) }
         ensures cause { IfErr result (Happens J.job) }
     {
         if J::is_recorded() {
-            self.noted_turn(rt, task)
+            self.noted_turn(rt, rooms, task)
         } else {
-            Ok(go::<J>(task, self.code.lend())?)
+            Ok(go::<J>(task, self.code.lend(), rooms)?)
         }
     }
 
     /// Returns the next turn that is more than a step, and records each step; or a step, if the run
     /// is over.
-    fn noted_turn<R: Wait>(&self, rt: &R, task: Task<'p>) -> Result<WeightedTurn<'p>, Trouble>
+    fn noted_turn<R: Wait>(
+        &self,
+        rt: &R,
+        rooms: &mut TaskRooms<'p>,
+        task: Task<'p>,
+    ) -> Result<WeightedTurn<'p>, Trouble>
         requires { IsOwnTask J.job task }
         ensures next { IfOk result (IsOwnTurn J.job) }
         ensures cause { IfErr result (Happens J.job) }
     {
         let mut task = task;
         for _ in rt.forever() {
-            match self.noted_step(rt, task)? {
+            match self.noted_step(rt, rooms, task)? {
                 WeightedTurn::Going(next) => task = next,
                 turn => return Ok(turn),
             }
@@ -139,14 +151,19 @@ impl<'p, J: Running + Recording, G: Gate> Shared<'p, J, G> {
 
     /// Takes one turn of a task. If it is a step or spawns a task, that is recorded in the same holding
     /// of the log's lock.
-    fn noted_step<R: Wait>(&self, rt: &R, task: Task<'p>) -> Result<WeightedTurn<'p>, Trouble>
+    fn noted_step<R: Wait>(
+        &self,
+        rt: &R,
+        rooms: &mut TaskRooms<'p>,
+        task: Task<'p>,
+    ) -> Result<WeightedTurn<'p>, Trouble>
         requires { IsOwnTask J.job task }
         ensures next { IfOk result (IsOwnTurn J.job) }
         ensures cause { IfErr result (Happens J.job) }
     {
         let mut log_guard = self.hold(rt);
         let steps = steps_of::<J>(&task);
-        match advance::<J>(task)? {
+        match advance::<J>(task, rooms)? {
             WeightedTurn::Going(next) => {
                 note_step::<J>(&mut log_guard, &next, steps);
                 Ok(WeightedTurn::Going(next))
@@ -179,7 +196,7 @@ impl<'p, J: Running + Recording, G: Gate> Shared<'p, J, G> {
     // ---- after a turn
 
     /// Draws the ticket of a task that starts.
-    fn draw(&self, state: &mut WorkerState) -> Result<Stub, RunError>
+    fn draw(&self, state: &mut WorkerAtWork<'p>) -> Result<Stub, RunError>
         requires seat { HasSeat self.now.tickets self.now.settings.tasks state.old.seat }
         ensures seat { OnOk result
             (HasSeat self.now.tickets self.now.settings.tasks state.new.seat) }
@@ -364,7 +381,7 @@ impl<'p, J: Running + Recording, G: Gate> Shared<'p, J, G> {
     fn step<R: Wait>(
         &self,
         rt: &R,
-        state: &mut WorkerState,
+        state: &mut WorkerAtWork<'p>,
         tasks: &mut Tasks<'p, J>,
         open_scopes: &mut OpenScopes<'p, J>,
         task: Task<'p>,
@@ -380,7 +397,7 @@ impl<'p, J: Running + Recording, G: Gate> Shared<'p, J, G> {
             (put_into tasks.old.own) (put_into tasks.new.own)) }
         ensures once { length (drawn_of state.new.seat) ≤ length (drawn_of state.old.seat) + 1 }
     {
-        match self.turn(rt, state.number, open_scopes, task)? {
+        match self.turn(rt, state.number, &mut state.rooms, open_scopes, task)? {
             AfterTurn::Follows(next) => Ok(next),
             AfterTurn::Spawned(task, child) => {
                 let stub = self.draw(state)?;
@@ -394,7 +411,7 @@ impl<'p, J: Running + Recording, G: Gate> Shared<'p, J, G> {
     fn go_on<R: Wait>(
         &self,
         rt: &R,
-        state: &mut WorkerState,
+        state: &mut WorkerAtWork<'p>,
         tasks: &mut Tasks<'p, J>,
         open_scopes: &mut OpenScopes<'p, J>,
         task: Task<'p>,
@@ -427,7 +444,7 @@ impl<'p, J: Running + Recording, G: Gate> Shared<'p, J, G> {
     fn run_first<R: Wait>(
         &self,
         rt: &R,
-        state: &mut WorkerState,
+        state: &mut WorkerAtWork<'p>,
         tasks: &mut Tasks<'p, J>,
         first: First<'p, J>,
     ) -> Result<Option<Outcome>, RunError>
@@ -452,7 +469,7 @@ impl<'p, J: Running + Recording, G: Gate> Shared<'p, J, G> {
     fn run_next<R: Wait>(
         &self,
         rt: &R,
-        state: &mut WorkerState,
+        state: &mut WorkerAtWork<'p>,
         tasks: &mut Tasks<'p, J>,
         ready: Ready<'p, J>,
     ) -> Result<Option<Outcome>, RunError>
@@ -467,7 +484,7 @@ impl<'p, J: Running + Recording, G: Gate> Shared<'p, J, G> {
     {
         let from = ready.from();
         let mut log_guard = self.hold(rt);
-        let (task, mut open_scopes) = ready.begin()?;
+        let (task, mut open_scopes) = ready.begin(&mut state.rooms)?;
         note_taken::<J>(&mut log_guard, state.number, from, &task);
         drop(log_guard);
         self.let_in(&task);
@@ -495,7 +512,7 @@ impl<'p, J: Running + Recording, G: Gate> Shared<'p, J, G> {
     fn find_work<R: Wait>(
         &self,
         rt: &R,
-        state: &WorkerState,
+        state: &WorkerAtWork<'p>,
         tasks: &mut Tasks<'p, J>,
         looks: &mut u32,
     ) -> Option<Ready<'p, J>> {
@@ -517,7 +534,7 @@ impl<'p, J: Running + Recording, G: Gate> Shared<'p, J, G> {
     fn main_loop<R: Wait>(
         &self,
         rt: &R,
-        state: &mut WorkerState,
+        state: &mut WorkerAtWork<'p>,
         tasks: &mut Tasks<'p, J>,
         first: Option<First<'p, J>>,
     ) -> Result<Option<Outcome>, RunError>
@@ -553,20 +570,24 @@ impl<'p, J: Running + Recording, G: Gate> Shared<'p, J, G> {
 fn go<'p, J: Running>(
     task: Task<'p>,
     code: &ProgramCode<'p>,
+    rooms: &mut TaskRooms<'p>,
 ) -> Result<WeightedTurn<'p>, AllocError>
     requires own { IsOwnTask J.job task }
     requires code { HasCode J.job code.now }
     ensures { IfOk result (IsOwnTurn J.job) }
 {
-    task.go(code)
+    task.go(code, rooms)
 }
 
 /// Takes one turn of a task.
-fn advance<'p, J: Running>(task: Task<'p>) -> Result<WeightedTurn<'p>, AllocError>
+fn advance<'p, J: Running>(
+    task: Task<'p>,
+    rooms: &mut TaskRooms<'p>,
+) -> Result<WeightedTurn<'p>, AllocError>
     requires { IsOwnTask J.job task }
     ensures { IfOk result (IsOwnTurn J.job) }
 {
-    task.advance()
+    task.advance(rooms)
 }
 
 /// Returns the number of steps that a task may still take.
@@ -657,10 +678,21 @@ impl<'p, J: Running + Recording + Send + Sync, G: Gate + Sync> Crew for Shared<'
 
     fn work<R: Wait>(&self, rt: &R, parts: WorkerParts<'p, J>) -> Report {
         let WorkerParts {
-            mut state,
+            state,
             mut tasks,
             first,
         } = parts;
+        let WorkerState {
+            number,
+            parker,
+            seat,
+        } = state;
+        let mut state = WorkerAtWork {
+            number,
+            parker,
+            seat,
+            rooms: TaskRooms::new(self.job.alloc),
+        };
         let told = self.main_loop(rt, &mut state, &mut tasks, first);
         let silent = match &told {
             Ok(None) => true,

@@ -12,6 +12,7 @@ use std::alloc::AllocError;
 use std::marker::Model;
 use std::sync::Arc;
 use tickets::Stub;
+use weighted_task::rooms::TaskRooms;
 use weighted_task::task::{Child, Task};
 
 /// A spawned task of the run, its scope, and the ticket that was drawn for it. Contracts see it as
@@ -67,7 +68,10 @@ impl<'p, J: Running> Ready<'p, J> {
     }
 
     /// Returns the task before its first turn, and its scopes. Its ticket is used up.
-    pub fn begin(self) -> Result<(Task<'p>, OpenScopes<'p, J>), AllocError>
+    pub fn begin(
+        self,
+        rooms: &mut TaskRooms<'p>,
+    ) -> Result<(Task<'p>, OpenScopes<'p, J>), AllocError>
         ensures { IfOk result (λ r. IsOwnTask J.job r.0) }
     {
         let Ready {
@@ -77,7 +81,7 @@ impl<'p, J: Running> Ready<'p, J> {
             ..
         } = self;
         let outer = Vec::new(child.job.alloc);
-        let task = child.begin()?;
+        let task = child.begin(rooms)?;
         Ok((
             task,
             OpenScopes {

@@ -7,6 +7,7 @@ use crossbeam_utils::sync::Parker;
 use finish_scope::running::Running;
 use tickets::Seat;
 use types::outcome::Outcome;
+use weighted_task::rooms::TaskRooms;
 
 /// The data that one worker owns.
 #[derive(Drop)]
@@ -26,6 +27,16 @@ pub struct WorkerState {
     pub parker: Parker,
     /// The seat on which it draws tickets.
     pub seat: Seat,
+}
+
+/// A worker in its thread: its state, and what the tasks that ended on it leave to the next ones.
+/// The latter never leaves the thread.
+#[derive(Drop)]
+pub struct WorkerAtWork<'p> {
+    pub number: usize,
+    pub parker: Parker,
+    pub seat: Seat,
+    pub rooms: TaskRooms<'p>,
 }
 
 /// A worker's report.

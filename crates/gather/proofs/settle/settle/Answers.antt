@@ -17,17 +17,17 @@ none_clear ws none = subst (Each (λ w. IsClear w.filling)) (sym none) tt
 pub turns-init : goal.turns-init
 turns-init c =
     let h = starts (task_result c.args.start) (map task_result c.args.results.items) (map task_result (left c.in_ok-unused.unused))
-    (map waiting c.in_ok-waiting.waiting.items) (part c.of-filling.result.0) (ap (map task_result) c.in_ok-unused.ensures) (ap (map waiting) c.in_ok-waiting.ensures.items)
+    (map waiting c.new-2.result.items) (part c.of-filling.result.0) (ap (map task_result) c.in_ok-unused.ensures) (ap (map waiting) c.new-2.ensures.items)
     c.of-filling.ensures.opened in
     record {
       comes = h.comes;
       owned = h.owned;
       whole = h.whole;
-      clear = λ gives. (c.of-filling.ensures.clear, none_clear c.in_ok-waiting.waiting.items c.in_ok-waiting.ensures.items);
+      clear = λ gives. (c.of-filling.ensures.clear, none_clear c.new-2.result.items c.new-2.ensures.items);
       reached =
           starts_reached (task_result c.args.start) (map task_result c.args.results.items) (map task_result (left c.in_ok-unused.unused))
-          (map waiting c.in_ok-waiting.waiting.items) (part c.of-filling.result.0) (map (λ p. p.turns.items) c.new.result.items)
-          (ap (map task_result) c.in_ok-unused.ensures) (ap (map waiting) c.in_ok-waiting.ensures.items) c.of-filling.ensures.opened
+          (map waiting c.new-2.result.items) (part c.of-filling.result.0) (map (λ p. p.turns.items) c.new.result.items)
+          (ap (map task_result) c.in_ok-unused.ensures) (ap (map waiting) c.new-2.ensures.items) c.of-filling.ensures.opened
           (ap (map (λ p. p.turns.items)) c.new.ensures.items);
     }
 

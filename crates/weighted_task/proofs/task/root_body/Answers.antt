@@ -1,6 +1,5 @@
 use Rattle.std.proofs.Common.{◌∙◌, ap, subst}
 use Rattle.std.proofs.lemmas.Result.{IfOk-weaker}
-use Rattle.types.specs.Translation.{program}
 use Rattle.task_run.specs.OwnRun.{Start}
 use Rattle.task_run.specs.Reached.{begun, root_begins}
 use Rattle.task_run.specs.Runs.{root}
@@ -14,24 +13,20 @@ pub returns : goal.returns
 returns c =
     let j = c.args.job in
     let s = root (program_of j) (lists_of j) (budget_of j) in
-    let run = c.in_ok-run.run' in
-    let begins = c.in_ok-run.ensures in
-    let at =
-    subst (λ (n : _). IsAt run (begun n s)) (ap (λ (z : _). z.steps) c.plan.ensures.budget)
-    (subst (λ (z : Start). IsAt run (begun c.plan.result.budget.steps z)) c.in_ok-root.ensures begins.begun) in
-    IfOk-weaker c.first_body.result _ (λ b. IsRootBody j b.value)
-    (λ b first. record {
-      run = run;
-      first = first;
+    IfOk-weaker c.new_body.result _ (λ b. IsRootBody j b.value)
+    (λ b starts.
+    let at = subst (λ (z : Start). IsAt starts.run (begun j.budget.steps z)) c.in_ok-root.ensures starts.begun in
+    let nest = starts.nest ∙ ap (λ (z : Start). z.nest) c.in_ok-root.ensures in
+    record {
+      run = starts.run;
+      first = starts.first;
       begun = at;
-      nest = begins.nest ∙ ap (λ (z : Start). z.nest) c.in_ok-root.ensures;
+      nest = nest;
       task = record {
-        run = run;
-        has = first.run;
+        run = starts.run;
+        has = starts.first.run;
         goes =
-            first_goes j c.requires s run b.value (record { depth = 0; number = 0 }) root_begins
-            (ap (λ (q : _). q.budget) begins.plan ∙ c.plan.ensures.budget)
-            (ap (λ (q : _). program q.program.now) begins.plan ∙ c.plan.ensures.program)
-            (begins.nest ∙ ap (λ (z : Start). z.nest) c.in_ok-root.ensures) at first;
+            first_goes j c.requires s starts.run b.value (record { depth = 0; number = 0 }) root_begins starts.budget starts.program nest at
+            starts.first;
       };
-    }) c.first_body.ensures
+    }) c.new_body.ensures

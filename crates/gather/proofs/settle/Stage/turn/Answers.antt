@@ -31,6 +31,12 @@ returns-in_ok-open-in-Some-clause-leads c =
     subst (λ (hs : List rListed). Leads (with_holes s hs) (gathering new)) (sym c.in-Some.ensures.items)
     c.in_ok-open-in-Some.ensures.leads
 
+pub returns-in_ok-open-in-Some-clause-clear : goal.returns-in_ok-open-in-Some-clause-clear
+returns-in_ok-open-in-Some-clause-clear c =
+    let s = c.args.self.now in let new = c.open.new.self in
+    subst (λ (hs : List rListed). IsWhole (with_holes s hs) → AreClear s → AreClear new) (sym c.in-Some.ensures.items)
+    c.in_ok-open-in-Some.ensures.clear
+
 pub returns-in_ok-open-in-Some-clause-reached : goal.returns-in_ok-open-in-Some-clause-reached
 returns-in_ok-open-in-Some-clause-reached c =
     let s = c.args.self.now in let new = c.open.new.self in

@@ -20,20 +20,10 @@ returns-in-Err c =
     let l = c.args.label in let k = c.in-Err.kind in
     on_ok_both c.fault.result
     (λ state kept needs close.
-    let turns = turns_fault (record m { thread = record m.thread { spare = c.room_for.new.spare } }) c.fault.new.self l k
+    turns_fault m c.fault.new.self l k
     (acted p (own_rules needs m.thread.nest close) l
     (Call c.args.procedure.number (map number c.args.values.now) (map section c.args.sections.now)))
-    (λ fs x. value_faults l fs (with_own x (state_of m.thread)) _ k _ (ap listed (sym c.in-Err.is) ∙ c.in_ok-kind.ensures)) state kept in
-    record {
-      plan = turns.plan;
-      nest = turns.nest;
-      stands = λ fs x shows. turns.stands fs x (record {
-        frames = shows.frames;
-        owned = shows.owned;
-        pending = shows.pending;
-        few = shows.few;
-      });
-    })
+    (λ fs x. value_faults l fs (with_own x (state_of m.thread)) _ k _ (ap listed (sym c.in-Err.is) ∙ c.in_ok-kind.ensures)) state kept)
     c.fault.ensures.state c.fault.ensures.task
 
 pub returns : goal.returns

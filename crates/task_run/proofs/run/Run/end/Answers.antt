@@ -12,11 +12,11 @@ use Rattle.task_run.proofs.run.Run.end.Goals as goal
 
 pub returns-in-None-clause-turn : goal.returns-in-None-clause-turn
 returns-in-None-clause-turn c = λ needs close fs x shows.
-    let m = c.args.self in let popped = c.pop.new.self in
+    let m = c.args.self.now in let popped = c.pop.new.self in
     let none : m.frames.items ≡ [] = nil_from_length m.frames.items (sym m.frames.ok.0 ∙ c.in-None.ensures.cases.0) in
-    subst (λ (fs : List (Frame Own)). TurnOf needs close m fs (with_own x (state_of m.thread)) (Ended c.result.result))
+    subst (λ (fs : List (Frame Own)). TurnOf needs close m fs (with_own x (state_of m.thread)) (Ended c.result-made.result))
     (sym (none_stacked m.frames.items fs none shows.frames))
-    (c.result.ensures fs x (record {
+    (c.result-made.ensures fs x (record {
       frames = subst (λ (gs : List rFrame). Stacked gs fs) (c.in-None.ensures.items ∙ append-nil popped.items) shows.frames;
       owned = shows.owned;
       pending = shows.pending;
@@ -25,7 +25,7 @@ returns-in-None-clause-turn c = λ needs close fs x shows.
 
 pub returns-in_ok-paused-in-EndFinish-clause-turn : goal.returns-in_ok-paused-in-EndFinish-clause-turn
 returns-in_ok-paused-in-EndFinish-clause-turn c = λ needs close fs x shows.
-    let m = c.args.self in let popped = c.pop.new.self in
+    let m = c.args.self.now in let popped = c.pop.new.self in
     let st = with_own x (state_of m.thread) in
     let waiting = EndsFinish c.in_ok-paused-in-EndFinish.paused c.in_ok-paused-in-EndFinish.result in
     on_frame m.frames.items popped.items c.in-Some.frame (rEndFinish c.in-EndFinish.outer) fs

@@ -74,7 +74,7 @@ returns-clause-did g c =
       nest = nest - 1;
       path = m.thread.path.turns.items ++ (m.thread.spawned + 1) ∷ [];
     }) in
-    given ∙ sym c.in_ok-start.ensures ∙ ap start (sym c.in_ok-start-2.ensures.ok) in
+    given ∙ sym c.in_ok-start.ensures ∙ ap start (sym c.in_ok-start-2.ensures) in
     let kept : rListed = record {
       path = c.in_ok-child.field-0;
       windows = c.in_ok-windows.windows;
