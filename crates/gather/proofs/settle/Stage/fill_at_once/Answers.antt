@@ -39,16 +39,16 @@ returns-in_err-fill-clause-own_case c =
     (map waiting (s.waiting.items ++ next ∷ [])) (waiting next) (part c.args.opened) e (ap (map listed) c.requires)
     (one_more s.waiting.items next) c.in_err-fill.ensures.refused)
 
-pub returns-in_ok-fill-clause-leads : goal.returns-in_ok-fill-clause-leads
-returns-in_ok-fill-clause-leads c =
+pub returns-clause-leads : goal.returns-clause-leads
+returns-clause-leads c =
     let s = c.args.self.now in
     let next : rWaiting = record { filling = s.filling; hole = c.args.hole } in
     leads-filled (map task_result (left s.results.unused)) (map waiting s.waiting.items) (map waiting (s.waiting.items ++ next ∷ []))
     (waiting next) (part c.args.opened) (part c.fill.new.self) (ap (map listed) c.requires) (one_more s.waiting.items next)
     c.in_ok-fill.ensures.apart (c.in_ok-fill.ensures.filled ∙ ap (filled (waiting next)) c.in_ok-child.ensures.closed)
 
-pub returns-in_ok-fill-clause-reached : goal.returns-in_ok-fill-clause-reached
-returns-in_ok-fill-clause-reached c = λ start rs k.
+pub returns-clause-reached : goal.returns-clause-reached
+returns-clause-reached c = λ start rs k.
     let s = c.args.self.now in let path = c.args.path in
     let next : rWaiting = record { filling = s.filling; hole = c.args.hole } in
     let rest = map task_result (left s.results.unused) in
@@ -59,8 +59,8 @@ returns-in_ok-fill-clause-reached c = λ start rs k.
     (map waiting (s.waiting.items ++ next ∷ [])) (waiting next) (part c.args.opened) now (settled c.in_ok-child.child)
     (ap (map listed) c.requires) (one_more s.waiting.items next) c.in_ok-fill.ensures.filled k)
 
-pub returns-in_ok-fill-clause-clear : goal.returns-in_ok-fill-clause-clear
-returns-in_ok-fill-clause-clear c = λ whole clear opened_clear.
+pub returns-clause-clear : goal.returns-clause-clear
+returns-clause-clear c = λ whole clear opened_clear.
     let s = c.args.self.now in let f = c.args.opened in
     let next : rWaiting = record { filling = s.filling; hole = c.args.hole } in
     let child = c.in_ok-child.child in

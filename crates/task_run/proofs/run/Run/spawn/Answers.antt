@@ -122,9 +122,9 @@ returns-clause-did g c =
                 environment = env;
                 store = (c.in_ok-holdings.ensures.left ∙ ap (λ (ws : List Window). without (has ws) store) writes) t;
                 lines = (ap (λ (v : Vec (Vec ℤ Global) Global). map numbers v.items) c.replace.ensures.after
-                    ∙ ap (map numbers) c.new-2.ensures.items) t;
+                    ∙ ap (map numbers) c.new.ensures.items) t;
                 faults = (ap (λ (v : Vec rFault Global). map fault v.items) c.replace-2.ensures.after
-                    ∙ ap (map fault) c.new-3.ensures.items) t;
+                    ∙ ap (map fault) c.new-2.ensures.items) t;
                 steps = m.thread.steps;
                 path = m.thread.path.turns.items;
                 spawned = m.thread.spawned + 1;
