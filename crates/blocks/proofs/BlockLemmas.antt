@@ -1,5 +1,5 @@
 -- What blocks hold, own and have room for.
-use Rattle.std.proofs.Common.{◌≡◌, ℕ, ◌+◌, ◌-◌, ◌<◌, ◌≤◌, List, length, Option, Some, None, Bool, true, false, refl, sym, ap, ◌∙◌, arith, rules, subst, ◌⊎◌, inl, inr}
+use Rattle.std.proofs.Common.{◌≡◌, ℕ, zero, suc, ◌+◌, ◌-◌, ◌<◌, ◌≤◌, List, length, Option, Some, None, Bool, true, false, refl, sym, ap, ◌∙◌, arith, rules, subst, ◌⊎◌, inl, inr}
 use Rattle.std.proofs.lemmas.Bool.{leb-true, leb-false, ltb-true}
 use Rattle.std.specs.Arc.{arc_value}
 use Rattle.std.specs.Box.{box_value}
@@ -19,9 +19,9 @@ use Rattle.blocks.specs.declared.block.Block.TheVariants.{Empty, Mixed as InPart
 use Rattle.blocks.specs.declared.mixed.Mixed.{Mixed}
 use Rattle.blocks.specs.declared.cut.Cut.{Cut}
 use Rattle.blocks.specs.declared.numbers.Numbers.{Numbers}
-use Rattle.blocks.proofs.RowLemmas.{row_from-behind, row_from-in, row_from-there}
+use Rattle.blocks.proofs.RowLemmas.{row_from-before, row_from-behind, row_from-in, row_from-there}
 use Rattle.blocks.proofs.KindLemmas.{held_row-none}
-use Rattle.blocks.proofs.WalkLemmas.{how_many-none, in_range-true, in_range-low, in_range-high}
+use Rattle.blocks.proofs.WalkLemmas.{how_many-none, how_many-rest, how_many-some, in_range-true, in_range-low, in_range-high}
 
 -- ---- the result of a test
 
@@ -89,6 +89,29 @@ IsAsWide-there n m k wide some none =
 
 pub IsAsWide-again : (n m o : Numbers) → IsAsWide n m → IsAsWide m o → IsAsWide n o
 IsAsWide-again n m o a b = record { first = a.first ∙ b.first; length = a.length ∙ b.length }
+
+-- numbers that lie within others
+pub ReachOver-within : (n m : Numbers) → 0 < length n.list.items → IsWithin (number_in n) (number_in m)
+    → ReachOver m n.first (n.first + length n.list.items)
+ReachOver-within n m some within =
+    let all = ReachOver-all n n.first (n.first + length n.list.items) (record { low = omega arith; high = omega arith }) in
+    ReachOver-from_all m n.first (n.first + length n.list.items) (omega (arith, some)) (λ k e. within k (all k e))
+
+-- ---- how many numbers there are
+
+pub how_many-row : (first : ℕ) (xs : List ℤ) (n : ℕ) → first + length xs ≤ n → how_many (row_from first xs) n ≡ length xs
+how_many-row first xs n fits =
+    how_many-rest (row_from first xs) (first + length xs) n fits (λ k le. row_from-behind first xs k le)
+    ∙ up_to (length xs) (omega arith)
+  where
+    up_to : (i : ℕ) → i ≤ length xs → how_many (row_from first xs) (first + i) ≡ i
+    up_to zero le = how_many-none (row_from first xs) (first + zero) (λ k lt. row_from-before first xs k (omega (arith, lt)))
+    up_to (suc i) le =
+        let next : first + suc i ≡ first + i + 1 = omega arith in
+        let before = up_to i (omega (arith, le)) in
+        let here = how_many-some (row_from first xs) (first + i) _
+        (row_from-in first xs (first + i) (pos 0) (omega arith) (omega (arith, le))) in
+        ap (how_many (row_from first xs)) next ∙ here ∙ omega (arith, before)
 
 option_map-none : {A B : Type 0} (f : A → B) (o : Option A) → o ≡ None → option_map f o ≡ None
 option_map-none f o e = ap (option_map f) e

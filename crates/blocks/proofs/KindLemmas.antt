@@ -9,13 +9,17 @@ use Rattle.std.proofs.lemmas.List.{get_or_append_left, get_or-append_right, get_
 use Rattle.std.proofs.lemmas.List.{length-append, length-replicate, length-set}
 use Rattle.std.proofs.Math.ListN.{get_or-append}
 use Rattle.std.proofs.Math.Seq.{get_or-append_seam}
-use Rattle.std.specs.Prelude.{ℤ, pos, nat_eq, if◌then◌else◌}
+use Rattle.std.specs.Prelude.{ℤ, pos, nat_eq, option_map, if◌then◌else◌}
+use borrow.Rule.Slice.PartMut.{put_mid}
+use Rattle.blocks.proofs.RowLemmas.{get_or-mid_before, get_or-mid_behind, get_or-mid_in, length-mid}
 use Rattle.blocks.proofs.RowLemmas.{row_from-before, row_from-behind, row_from-cases, row_from-in, row_from-push, row_from-set, row_from-there}
+use Rattle.blocks.proofs.WalkLemmas.{in_range-cases}
 use Rattle.blocks.specs.Numbers.{row_from}
 use Rattle.blocks.specs.declared.kind.HeldAs.{HeldAs}
 use Rattle.blocks.specs.declared.kind.HeldAs.TheVariants.{Absent, Own, Copied}
 use Rattle.blocks.specs.Blocks.{held_as}
-use Rattle.blocks.specs.Held.{Held}
+use Rattle.blocks.specs.Held.{Held, Owned, first_of}
+use Rattle.blocks.specs.Offsets.{in_range}
 
 -- what is held of a row whose elements have kinds of their own
 abbrev pub held_row : (first : ℕ) → List HeldAs → List ℤ → ℕ → Option Held
@@ -165,3 +169,113 @@ held_row-front start count zeros kinds xs long same k = elim (row_from-cases (st
     none (inr ge) = held_row-none start (replicate count Absent ++ kinds) (zeros ++ xs) k
         (row_from-behind start (zeros ++ xs) k (omega (arith, ge, long, length-append zeros xs)))
     none (inl lt) = by_start (cases_lt k start) lt
+
+-- ---- n kinds written, from an offset on
+
+-- an offset beside them has the kind that it had
+kind-beside : (first : ℕ) (kinds news : List HeldAs) (from n k : ℕ) → length news ≡ n → first ≤ from → from + n ≤ first + length kinds
+    → first ≤ k → (k < from) ⊎ (from + n ≤ k)
+    → get_or (put_mid (from - first) n kinds news) (k - first) Absent ≡ get_or kinds (k - first) Absent
+kind-beside first kinds news from n k long low fits there (inl lt) =
+    get_or-mid_before (from - first) n kinds news (k - first) Absent (omega (arith, low, fits)) (omega (arith, lt, low, there))
+kind-beside first kinds news from n k long low fits there (inr le) =
+    get_or-mid_behind (from - first) n kinds news (k - first) Absent long (omega (arith, low, fits)) (omega (arith, le, low, there))
+
+-- each of them has the new kind
+kind-among : (first : ℕ) (kinds : List HeldAs) (kind : HeldAs) (from n k : ℕ) → first ≤ from → from + n ≤ first + length kinds
+    → from ≤ k → k < from + n → get_or (put_mid (from - first) n kinds (replicate n kind)) (k - first) Absent ≡ kind
+kind-among first kinds kind from n k low fits le lt =
+    get_or-mid_in (from - first) n kinds (replicate n kind) (k - first) Absent (length-replicate n kind) (omega (arith, low, fits))
+    (omega (arith, low, le)) (omega (arith, low, le, lt))
+    ∙ get_or-replicate n (k - first - (from - first)) kind Absent (omega (arith, low, le, lt))
+
+-- nothing is held any more at the offsets of a range, of which those from `low` to `high` are in the row
+pub held_row-cleared : (first : ℕ) (kinds : List HeldAs) (xs : List ℤ) (from to low n : ℕ) → length kinds ≡ length xs
+    → first ≤ low → low + n ≤ first + length xs → from ≤ low → low + n ≤ to
+    → ((k : ℕ) → first ≤ k → k < first + length xs → from ≤ k → k < to → (low ≤ k) × (k < low + n)) → (k : ℕ)
+    → held_row first (put_mid (low - first) n kinds (replicate n Absent)) xs k
+    ≡ (if in_range from to k then None else held_row first kinds xs k)
+held_row-cleared first kinds xs from to low n same there fits begins ends among k = elim (row_from-cases first xs k (pos 0)) [
+  | inl w ↦ (let has = row_from first xs k in elim (in_range-cases from to k) [
+    | inl r ↦ (let at = among k w.0 w.1 r.1 r.2 in
+        ap (λ d. held_as d has) (kind-among first kinds Absent low n k there (omega (arith, same, fits)) at.0 at.1)
+        ∙ sym (ap (λ b. if b then None else held_row first kinds xs k) r.0))
+    | inr r ↦ ap (λ d. held_as d has)
+        (kind-beside first kinds (replicate n Absent) low n k (length-replicate n Absent) there (omega (arith, same, fits)) w.0 (beside r.1))
+        ∙ sym (ap (λ b. if b then None else held_row first kinds xs k) r.0)
+  ])
+  | inr w ↦ held_row-none first (put_mid (low - first) n kinds (replicate n Absent)) xs k w.1
+      ∙ sym (either (in_range from to k) (held_row-none first kinds xs k w.1))
+]
+  where
+    beside : (k < from) ⊎ (to ≤ k) → (k < low) ⊎ (low + n ≤ k)
+    beside (inl lt) = inl (omega (arith, lt, begins))
+    beside (inr le) = inr (omega (arith, le, ends))
+
+    either : (b : Bool) → held_row first kinds xs k ≡ None → (if b then None else held_row first kinds xs k) ≡ None
+    either true e = refl
+    either false e = e
+
+-- a range that has no offset of the row
+pub held_row-apart : (first : ℕ) (kinds : List HeldAs) (xs : List ℤ) (from to : ℕ)
+    → ((k : ℕ) → first ≤ k → k < first + length xs → from ≤ k → k < to → ⊥) → (k : ℕ)
+    → held_row first kinds xs k ≡ (if in_range from to k then None else held_row first kinds xs k)
+held_row-apart first kinds xs from to apart k = elim (in_range-cases from to k) [
+  | inr r ↦ sym (ap (λ b. if b then None else held_row first kinds xs k) r.0)
+  | inl r ↦ elim (row_from-cases first xs k (pos 0)) [
+    | inl w ↦ absurd (apart k w.0 w.1 r.1 r.2)
+    | inr w ↦ held_row-none first kinds xs k w.1 ∙ sym (ap (λ b. if b then None else held_row first kinds xs k) r.0)
+  ]
+]
+
+-- a row of owned numbers written over a part of the row
+module _ (first : ℕ) (kinds : List HeldAs) (xs : List ℤ) (from n : ℕ) (ys : List ℤ) (same : length kinds ≡ length xs)
+    (many : length ys ≡ n) (low : first ≤ from) (fits : from + n ≤ first + length xs) where
+  abbrev news : List ℤ
+  news = put_mid (from - first) n xs ys
+
+  abbrev owns : List HeldAs
+  owns = put_mid (from - first) n kinds (replicate n Own)
+
+  long : length news ≡ length xs
+  long = length-mid (from - first) n xs ys many (omega (arith, low, fits))
+
+  number-beside : (k : ℕ) → first ≤ k → (k < from) ⊎ (from + n ≤ k) → get_or news (k - first) (pos 0) ≡ get_or xs (k - first) (pos 0)
+  number-beside k there (inl lt) =
+      get_or-mid_before (from - first) n xs ys (k - first) (pos 0) (omega (arith, low, fits)) (omega (arith, lt, low, there))
+  number-beside k there (inr le) =
+      get_or-mid_behind (from - first) n xs ys (k - first) (pos 0) many (omega (arith, low, fits)) (omega (arith, le, low, there))
+
+  outside : (k : ℕ) → (k < first) ⊎ (first + length xs ≤ k) → row_from first news k ≡ None
+  outside k (inl lt) = row_from-before first news k lt
+  outside k (inr le) = row_from-behind first news k (omega (arith, le, long))
+
+  among : (k : ℕ) → from ≤ k → k < from + n → row_from first news k ≡ Some (get_or ys (k - from) (pos 0))
+  among k le lt =
+      row_from-in first news k (pos 0) (omega (arith, low, le)) (omega (arith, long, fits, lt))
+      ∙ ap Some
+      (get_or-mid_in (from - first) n xs ys (k - first) (pos 0) many (omega (arith, low, fits)) (omega (arith, low, le))
+      (omega (arith, low, le, lt))
+      ∙ ap (λ (j : ℕ). get_or ys j (pos 0)) (omega (arith, low, le)))
+
+  beside : (k : ℕ) → (k < from) ⊎ (from + n ≤ k) → held_row first owns news k ≡ held_row first kinds xs k
+  beside k out = elim (row_from-cases first xs k (pos 0)) [
+    | inl v ↦ ap (λ d. held_as d (row_from first news k))
+        (kind-beside first kinds (replicate n Own) from n k (length-replicate n Own) low (omega (arith, same, fits)) v.0 out)
+        ∙ ap (held_as (get_or kinds (k - first) Absent))
+        (row_from-in first news k (pos 0) v.0 (omega (arith, v.1, long)) ∙ ap Some (number-beside k v.0 out) ∙ sym v.2)
+    | inr v ↦ held_row-none first owns news k (outside k v.0) ∙ sym (held_row-none first kinds xs k v.1)
+  ]
+
+  pub held_row-row : (k : ℕ) → held_row first owns news k ≡ first_of (option_map Owned (row_from from ys k)) (held_row first kinds xs k)
+  held_row-row k = elim (row_from-cases from ys k (pos 0)) [
+    | inl w ↦ ap (λ d. held_as d (row_from first news k))
+        (kind-among first kinds Own from n k low (omega (arith, same, fits)) w.0 (omega (arith, w.1, many)))
+        ∙ ap (held_as Own) (among k w.0 (omega (arith, w.1, many)))
+        ∙ sym (ap (λ (o : Option ℤ). first_of (option_map Owned o) (held_row first kinds xs k)) w.2)
+    | inr w ↦ beside k (apart w.0) ∙ sym (ap (λ (o : Option ℤ). first_of (option_map Owned o) (held_row first kinds xs k)) w.1)
+  ]
+    where
+      apart : (k < from) ⊎ (from + length ys ≤ k) → (k < from) ⊎ (from + n ≤ k)
+      apart (inl lt) = inl lt
+      apart (inr le) = inr (omega (arith, le, many))

@@ -3,11 +3,13 @@ use Rattle.std.proofs.Common.{◌≡◌, ℕ, ◌+◌, ◌-◌, ◌<◌, ◌≤�
 use Rattle.std.proofs.Common.{Option, Some, None, Bool, true, false, refl, sym, ap, ◌∙◌, arith, rules, ◌⊎◌, inl, inr}
 use Rattle.std.proofs.lemmas.Bool.{eqb-true, eqb-false, leb-true, leb-false, ltb-true, le-leb, lt-leb}
 use Rattle.std.proofs.lemmas.Grind.{common_steps, get_or-set_at}
-use Rattle.std.proofs.lemmas.List.{get_or-drop, get_or-set_other, get_or-take, length-drop, length-set, length-take-le}
+use Rattle.std.proofs.lemmas.List.{get_or-append_right, get_or-drop, get_or-set_other, get_or-take, length-append, length-drop}
+use Rattle.std.proofs.lemmas.List.{length-set, length-take-le}
 use Rattle.std.proofs.Math.ListN.{get_or-append}
 use Rattle.std.proofs.Math.Seq.{get_or-append_seam}
 use Rattle.std.proofs.lemmas.Option.{slice_get_past, slice_get-get_or}
-use Rattle.std.specs.Prelude.{◌&&◌, drop, nat_eq, nat_le, nat_lt, slice_get, slice_range, if◌then◌else◌}
+use Rattle.std.specs.Prelude.{◌&&◌, drop, nat_eq, nat_le, nat_lt, slice_get, slice_range, take, if◌then◌else◌}
+use borrow.Rule.Slice.PartMut.{put_mid}
 use Rattle.blocks.specs.Numbers.{row_from}
 use Rattle.blocks.specs.Offsets.{inside}
 
@@ -138,3 +140,35 @@ row_from-range first xs from to d low some high k = by_tests (nat_le from k) (na
         ∙ get_or-drop (from - first) xs (k - from) d
         ∙ ap (λ (j : ℕ). get_or xs j d) (omega (arith, le, low)))
         ∙ sym (row_from-in first xs k d (omega (arith, le, low)) (omega (arith, lt, high)))
+
+-- ---- n elements of a list written, from an index on
+
+pub length-mid : {A : Type 0} (at n : ℕ) (xs ys : List A) → length ys ≡ n → at + n ≤ length xs → length (put_mid at n xs ys) ≡ length xs
+length-mid at n xs ys long fits =
+    let whole = length-append (take at xs) (ys ++ drop n (drop at xs)) in
+    let part = length-append ys (drop n (drop at xs)) in
+    let front = length-take-le at xs (omega (arith, fits)) in
+    omega (arith, whole, part, front, length-drop n (drop at xs), length-drop at xs, long, fits)
+
+pub get_or-mid_before : {A : Type 0} (at n : ℕ) (xs ys : List A) (i : ℕ) (d : A) → at + n ≤ length xs → i < at
+    → get_or (put_mid at n xs ys) i d ≡ get_or xs i d
+get_or-mid_before at n xs ys i d fits lt =
+    let front = length-take-le at xs (omega (arith, fits)) in
+    get_or-append (take at xs) (ys ++ drop n (drop at xs)) d i (omega (arith, front, lt)) ∙ get_or-take at xs i d lt
+
+pub get_or-mid_in : {A : Type 0} (at n : ℕ) (xs ys : List A) (i : ℕ) (d : A) → length ys ≡ n → at + n ≤ length xs → at ≤ i → i < at + n
+    → get_or (put_mid at n xs ys) i d ≡ get_or ys (i - at) d
+get_or-mid_in at n xs ys i d long fits low high =
+    let front = length-take-le at xs (omega (arith, fits)) in
+    get_or-append_right (take at xs) (ys ++ drop n (drop at xs)) at i d front low
+    ∙ get_or-append ys (drop n (drop at xs)) d (i - at) (omega (arith, low, high, long))
+
+pub get_or-mid_behind : {A : Type 0} (at n : ℕ) (xs ys : List A) (i : ℕ) (d : A) → length ys ≡ n → at + n ≤ length xs → at + n ≤ i
+    → get_or (put_mid at n xs ys) i d ≡ get_or xs i d
+get_or-mid_behind at n xs ys i d long fits le =
+    let front = length-take-le at xs (omega (arith, fits)) in
+    get_or-append_right (take at xs) (ys ++ drop n (drop at xs)) at i d front (omega (arith, le))
+    ∙ get_or-append_right ys (drop n (drop at xs)) n (i - at) d long (omega (arith, le))
+    ∙ get_or-drop n (drop at xs) (i - at - n) d
+    ∙ get_or-drop at xs (n + (i - at - n)) d
+    ∙ ap (λ (j : ℕ). get_or xs j d) (omega (arith, le))

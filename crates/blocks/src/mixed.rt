@@ -112,10 +112,11 @@ impl Mixed {
         ensures held { Agree (held_in self.new) (outside from to (held_in self.old)) }
         ensures numbers { self.new.numbers ≡ self.old.numbers }
     {
-        let low = from.max(self.numbers.first);
+        let first = self.numbers.first;
+        let low = from.max(first);
         let high = to.min(self.numbers.end());
-        for offset in low..high {
-            self.forget(offset);
+        if low < high {
+            self.kinds[low - first..high - first].fill(HeldAs::Absent);
         }
     }
 

@@ -1,7 +1,9 @@
 //! Owned offsets taken into blocks.
 
 use crate::block::Block;
+use crate::kind::HeldAs;
 use crate::mixed::Mixed;
+use crate::numbers::Numbers;
 use std::alloc::{AllocError, Global};
 use std::mem;
 use std::sync::Arc;
@@ -150,14 +152,17 @@ impl Mixed {
     ghost use Rattle.blocks.specs.Held.{Owned, first_of};
     ghost use Rattle.blocks.specs.Offsets.{Agree, IsWithin};
 
-    /// Takes in what a block owns, and returns how many numbers were copied. There must be room. No
-    /// other loop copies numbers that are pasted.
+    /// Takes in what a block owns, and returns how many numbers were copied. There must be room. Only
+    /// this function and `take_row` copy numbers that are pasted.
     fn take(&mut self, other: &Block) -> u64
         requires { IsWithin (owned_at other.now) (number_in self.old.numbers) }
         ensures held { Agree (held_in self.new)
             (λ k. first_of (option_map Owned (owned_at other.now k)) (held_in self.old k)) }
         ensures copied { result ≡ how_many (owned_at other.now) 256 }
     {
+        if let Block::Owned(numbers) = other {
+            return self.take_row(numbers);
+        }
         let low = other.start();
         let high = other.end();
         let mut copied = 0;
@@ -168,5 +173,23 @@ impl Mixed {
             }
         }
         copied
+    }
+
+    /// Takes in the numbers of a range, all at once, and returns how many were copied. There must be
+    /// room.
+    fn take_row(&mut self, numbers: &Numbers) -> u64
+        requires { IsWithin (number_in numbers.now) (number_in self.old.numbers) }
+        ensures held { Agree (held_in self.new)
+            (λ k. first_of (option_map Owned (number_in numbers.now k)) (held_in self.old k)) }
+        ensures copied { result ≡ how_many (number_in numbers.now) 256 }
+    {
+        let count = numbers.list.len();
+        if count == 0 {
+            return 0;
+        }
+        let at = numbers.first - self.numbers.first;
+        self.numbers.list[at..at + count].copy_from_slice(&numbers.list);
+        self.kinds[at..at + count].fill(HeldAs::Own);
+        count as u64
     }
 }

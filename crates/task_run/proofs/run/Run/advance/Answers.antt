@@ -9,8 +9,8 @@ end-requires g c =
     let stays = subst (λ s. IsStep needs c.args.self s c.step.new.self) c.in-AtEnd.is c.in_ok-done.ensures.step in
     subst IsAtEnd (sym stays.0) stays.1
 
-pub returns-in_ok-end-in-AtEnd-clause-turn : goal.returns-in_ok-end-in-AtEnd-clause-turn
-returns-in_ok-end-in-AtEnd-clause-turn g c =
+pub returns-clause-turn : goal.returns-clause-turn
+returns-clause-turn g c =
     let needs = g.N.Needed.needs c.args.needed.now in
     let stays = subst (λ s. IsStep needs c.args.self s c.step.new.self) c.in-AtEnd.is c.in_ok-done.ensures.step in
     subst (λ (r : Run). IsTurn needs r c.in_ok-end-in-AtEnd.field-0) stays.0 (c.in_ok-end-in-AtEnd.ensures.turn needs)

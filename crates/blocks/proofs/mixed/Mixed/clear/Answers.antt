@@ -1,0 +1,4 @@
+use Rattle.blocks.proofs.mixed.Mixed.clear.Goals as goal
+
+pub nothing : goal.nothing
+nothing c = ?
