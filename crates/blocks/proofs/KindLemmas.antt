@@ -216,18 +216,6 @@ held_row-cleared first kinds xs from to low n same there fits begins ends among 
     either true e = refl
     either false e = e
 
--- a range that has no offset of the row
-pub held_row-apart : (first : ℕ) (kinds : List HeldAs) (xs : List ℤ) (from to : ℕ)
-    → ((k : ℕ) → first ≤ k → k < first + length xs → from ≤ k → k < to → ⊥) → (k : ℕ)
-    → held_row first kinds xs k ≡ (if in_range from to k then None else held_row first kinds xs k)
-held_row-apart first kinds xs from to apart k = elim (in_range-cases from to k) [
-  | inr r ↦ sym (ap (λ b. if b then None else held_row first kinds xs k) r.0)
-  | inl r ↦ elim (row_from-cases first xs k (pos 0)) [
-    | inl w ↦ absurd (apart k w.0 w.1 r.1 r.2)
-    | inr w ↦ held_row-none first kinds xs k w.1 ∙ sym (ap (λ b. if b then None else held_row first kinds xs k) r.0)
-  ]
-]
-
 -- a row of owned numbers written over a part of the row
 module _ (first : ℕ) (kinds : List HeldAs) (xs : List ℤ) (from n : ℕ) (ys : List ℤ) (same : length kinds ≡ length xs)
     (many : length ys ≡ n) (low : first ≤ from) (fits : from + n ≤ first + length xs) where

@@ -8,7 +8,7 @@ use Rattle.blocks.proofs.BlockLemmas.{IsAsWide-again, IsAsWide-there, first_of-n
 use Rattle.blocks.proofs.WalkLemmas.{how_many-le, how_many-none, how_many-rest, how_many-skip, how_many-some}
 use Rattle.blocks.proofs.WalkLemmas.{so_far-begun, so_far-kept, so_far-more}
 use Rattle.blocks.proofs.mixed.Mixed.take.Goals as goal
-use Rattle.blocks.proofs.mixed.Mixed.take.Goals.{in-Some, in_default}
+use Rattle.blocks.proofs.mixed.Mixed.take.Goals.{in-Some, in_default-owned}
 
 pub loop-offset-init : goal.loop-offset-init
 loop-offset-init c = (
@@ -51,11 +51,11 @@ loop-offset-preserved c =
             rw w.copied-is (ap (λ (n : ℕ). n + 1) inv.2 ∙ sym (how_many-some other i v (sym w.in-Some.ensures))),
             end,
           ))
-      | in_default w ↦ (
+      | in_default-owned w ↦ (
         rw w.self-is (so_far-kept i new old (held_in c.loop-offset.self)
-            (first_of-none (other i) (old i) (sym w.in_default.ensures)) inv.0),
+            (first_of-none (other i) (old i) (sym w.in_default-owned.ensures)) inv.0),
         rw w.self-is inv.1,
-        rw w.copied-is (inv.2 ∙ sym (how_many-skip other i (sym w.in_default.ensures))),
+        rw w.copied-is (inv.2 ∙ sym (how_many-skip other i (sym w.in_default-owned.ensures))),
         end,
       )
     ]
