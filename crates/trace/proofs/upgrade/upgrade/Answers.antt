@@ -4,7 +4,7 @@ use Rattle.std.proofs.lemmas.List.{append-nil, drop_all, drop_more}
 use Rattle.std.specs.Prelude.{true}
 use Rattle.events.specs.declared.event.Event.{Event}
 use Rattle.event_worlds.specs.Replay.{IllegalAt}
-use Rattle.event_worlds.specs.Replaying.{comes}
+use Rattle.event_worlds.specs.Replaying.{comes, event}
 use Rattle.event_worlds.specs.declared.job.WeightedJob.{WeightedJob}
 use Rattle.event_worlds.proofs.Replaying.{goes_on, left_comes, stops_at}
 use Rattle.trace_text.specs.Spelled.{fits}
@@ -43,7 +43,7 @@ events-preserved c =
       at = b.0;
       shows = b.2;
       same = i.same ∙ ap (λ l. left_comes c.in-Some.job n l i.at) split ∙ s.1;
-      told = ap (λ l. map _ l ++ from c.in-Some.job (map _ (drop (n + 1) es)) b.0) added.0
+      told = ap (λ l. map event l ++ from c.in-Some.job (map event (drop (n + 1) es)) b.0) added.0
           ∙ one_more c.events.world i.at b.0 e next (drop (n + 1) es) i.shows b.1 c.in-Ok-numbered.ensures.numbered c.in-Some.job i.job
           c.events.told.items es (drop n es) split _ i.told;
       fits_so = ap (λ (l : List Event). fits Two l) added.0 ∙ fits_more c.events.told.items next i.fits_so added.1;
@@ -53,7 +53,7 @@ pub returns-clause-upgraded : goal.returns-clause-upgraded
 returns-clause-upgraded c =
     let i = c.events.invariant in
     let none = drop_all c.events.number c.args.events.now c.events-test.false in
-    let new = c.in-Some-new.ensures in
+    let new = c.in-Some-new.ensures.some in
     subst (λ (j : WeightedJob). IsUpgraded j c.args.header.now c.args.events.now c.in-Some-new.new c.events.told.items)
     c.in-Some.ensures.1
     (record {
@@ -63,6 +63,6 @@ returns-clause-upgraded c =
       workers = new.3;
       world = i.at;
       legal = i.same ∙ ap (λ l. left_comes c.in-Some.job c.events.number l i.at) none;
-      events = sym (append-nil _) ∙ ap (λ l. map _ c.events.told.items ++ from c.in-Some.job (map _ l) i.at) (sym none) ∙ i.told;
+      events = sym (append-nil (map event c.events.told.items)) ∙ ap (λ l. map event c.events.told.items ++ from c.in-Some.job (map event l) i.at) (sym none) ∙ i.told;
       fits_so = i.fits_so;
     })
