@@ -9,12 +9,12 @@ use Rattle.event_worlds.specs.Replay.{IllegalAt, start_of}
 use Rattle.event_worlds.specs.Replaying.{comes, event}
 use Rattle.event_worlds.specs.Shown.{Shows}
 use Rattle.event_worlds.specs.declared.job.WeightedJob.{WeightedJob}
-use Rattle.event_worlds.proofs.Replaying.{goes_on, left_comes, stops_at}
+use Rattle.event_worlds.proofs.Replaying.{left_comes, stops_at}
 use Rattle.trace_text.specs.Spelled.{fits}
 use Rattle.trace_text.specs.declared.format.Format.TheVariants.{Two}
 use Rattle.trace.specs.Upgrades.{IsUpgraded}
 use Rattle.trace.proofs.LogLemmas.{fits_more}
-use Rattle.trace.proofs.UpgradeLemmas.{from, one_more}
+use Rattle.trace.proofs.UpgradeLemmas.{from, goes_to, one_more}
 use Rattle.trace.proofs.upgrade.upgrade.Goals as goal
 
 pub events-init : goal.events-init
@@ -52,7 +52,6 @@ events-preserved c =
     let e = c.index-events-number.result in
     let next = c.in-Ok-numbered.next in
     let split = drop_more es n e c.events-test.true ∙ ap (λ x. x ∷ drop (n + 1) es) (sym c.index-events-number.is) in
-    let s = goes_on c.in-Ok.start.job c.events.world i.job i.at i.shows n e (drop (n + 1) es) c.go_by.new.self c.in-Ok-go_by.ensures.legal in
     let b = c.in-Ok-go_by.ensures.legal i.at i.shows in
     let added = OnTrue_at c.if-not-push.false c.push.ensures in
     record {
@@ -60,7 +59,8 @@ events-preserved c =
       job = c.in-Ok-go_by.ensures.job ∙ i.job;
       at = b.0;
       shows = b.2;
-      same = i.same ∙ ap (λ l. left_comes c.in-Ok.start.job n l i.at) split ∙ s.1;
+      same = i.same ∙ ap (λ l. left_comes c.in-Ok.start.job n l i.at) split
+          ∙ goes_to c.in-Ok.start.job c.events.world i.job i.at b.0 n e (drop (n + 1) es) b.1;
       told = ap (λ l. map event l ++ from c.in-Ok.start.job (map event (drop (n + 1) es)) b.0) added.0
           ∙ one_more c.events.world i.at b.0 e next (drop (n + 1) es) i.shows b.1 c.in-Ok-numbered.ensures.numbered c.in-Ok.start.job i.job
           c.events.told.items es (drop n es) split _ i.told;
