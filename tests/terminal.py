@@ -86,17 +86,17 @@ WARNED = (
     (["check", "--explain=never", "refused.afx"], b"", REFUSED_LINE, b"", 1),
 )
 STEPS = ["--steps", "1000000000"]
-# Commands that take long, each with whether it shows the time. A command is run with more turns or tasks until it takes long
-# enough. No program takes that long to check, so `check` waits for the text of its program.
+# Commands that take long, each with whether it shows the time, and how its output begins. A command is run with more turns or
+# tasks until it takes long enough. No program takes that long to check, so `check` waits for the text of its program.
 LONG = (
-    (["serial", "slow.afx", *STEPS], True),
-    (["serial", "slow.afx", *STEPS, "--progress"], False),
-    (["run", "slow.afx", "--workers", "1", *STEPS], True),
-    (["cost", "slow.afx", *STEPS], True),
-    (["bench", "slow.afx", "--workers", "1", *STEPS], True),
-    (["test", "slow.afx", *STEPS], True),
-    (["check", "late.afx"], True),
-    (["view", "tasks.afx", "tasks.trace", "--summary"], True),
+    (["serial", "slow.afx", *STEPS], True, b"1\n"),
+    (["serial", "slow.afx", *STEPS, "--progress"], False, b"1\n"),
+    (["run", "slow.afx", "--workers", "1", *STEPS], True, b"1\n"),
+    (["cost", "slow.afx", *STEPS], True, b"work: "),
+    (["bench", "slow.afx", "--workers", "1", *STEPS], True, b"serial"),
+    (["test", "slow.afx", *STEPS], True, b"1 passed, 0 failed\n"),
+    (["check", "late.afx"], True, b"accepted: 0 procedures, 1 labels\n"),
+    (["view", "tasks.afx", "tasks.trace", "--summary"], True, b"tasks: "),
 )
 LONG_ENOUGH = 1.5
 
@@ -138,7 +138,9 @@ def long_run(words, room, env):
         if words[0] == "check":
             late = pathlib.Path(room) / "late.afx"
             os.mkfifo(late)
-            threading.Timer(2, late.write_bytes, [b"main { print 1; }\n"]).start()
+            writer = threading.Timer(2, late.write_bytes, [b"main { print 1; }\n"])
+            writer.daemon = True
+            writer.start()
         began = time.monotonic()
         told = at_terminal(words, room, env, keeps_time=True)
         seconds = time.monotonic() - began
@@ -176,11 +178,11 @@ def main():
                 failed += 1
                 print(f"{way.__name__}: colours: {told}")
         # A command that takes more than a second shows the time, at a terminal alone, and erases it.
-        for words, is_shown in LONG:
+        for words, is_shown, begins in LONG:
             told, seconds = long_run(words, room, env)
             out, line, status = told
-            is_right = status == 0 and bool(TIME.search(line)) == is_shown and (not is_shown or not TIME.sub(b"", line))
-            if is_right and seconds >= LONG_ENOUGH:
+            is_right = status == 0 and out.startswith(begins) and seconds >= LONG_ENOUGH
+            if is_right and bool(TIME.search(line)) == is_shown and (not is_shown or not TIME.sub(b"", line)):
                 passed += 1
             else:
                 failed += 1
