@@ -8,7 +8,7 @@ use Rattle.event_worlds.specs.Worlds.{replayed}
 use Rattle.trace_text.specs.Headers.{header_of as header_in}
 use Rattle.trace_text.specs.Lines.{trace_text}
 use Rattle.trace_text.specs.Spelled.{fits}
-use Rattle.trace_text.specs.declared.header.Format.{Format}
+use Rattle.trace_text.specs.declared.format.Format.{Format}
 use Rattle.viewing.proofs.Viewing.{legal_or_not}
 use Rattle.driver.proofs.TracedRuns.{numbered_trace}
 use Rattle.driver.proofs.tracing.lines_of.Goals as goal

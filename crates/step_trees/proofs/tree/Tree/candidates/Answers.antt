@@ -78,8 +78,8 @@ leaves-preserved c =
     ∙ ap (λ t. old ++ candidates t) (sym whole)
     ∙ c.leaves.invariant
 
-pub returns-in-Single-None : goal.returns-in-Single-None
-returns-in-Single-None c =
+pub returns-in-None : goal.returns-in-None
+returns-in-None c =
     let k = leaf_of c.in-Single.leaf in
     let old = map candidate_of c.leaves.found.items in
     let whole : with_rights c.leaves.rights.items (tree_of c.leaves.self) ≡ Single k
