@@ -6,7 +6,7 @@ use Rattle.command_line.specs.Requests.{settings}
 use Rattle.files.specs.Held.{Held}
 use Rattle.commands.proofs.Answering.{declared_of}
 use Rattle.files.specs.Choosing.{TellsNoChoices}
-use Rattle.json_answers.proofs.Exploring.{by_choices, stands_by, chosen_fails, fails_passed, given_fails, memory_fails, memory_only, missing_fails, object_ended, object_open}
+use Rattle.json_answers.proofs.Explored.{by_choices, stands_by, chosen_fails, fails_passed, given_fails, memory_fails, memory_only, missing_fails, object_ended, object_open}
 use Rattle.json_answers.proofs.exploring.explored_told.Goals as goal
 
 pub returns-in_err-given-clause-why : goal.returns-in_err-given-clause-why
