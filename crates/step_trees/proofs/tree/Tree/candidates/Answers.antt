@@ -1,5 +1,5 @@
-use Rattle.std.proofs.Common.{◌≡◌, ◌+◌, ◌<◌, [], ◌++◌, map, suc, sym, ap, ◌∙◌, arith}
-use Rattle.std.proofs.lemmas.List.{append_assoc, append-nil}
+use Rattle.std.proofs.Common.{◌≡◌, ◌+◌, ◌<◌, [], ◌++◌, length, map, suc, sym, ap, ◌∙◌, arith}
+use Rattle.std.proofs.lemmas.List.{append_assoc, nil_from_length}
 use Rattle.types.specs.Trees.{AndThen, Beside, Single}
 use Rattle.step_trees.specs.Held.{tree_of}
 use Rattle.step_trees.specs.Standing.{candidate_of, candidates, listed}
@@ -82,9 +82,10 @@ pub returns-in-None : goal.returns-in-None
 returns-in-None c =
     let k = leaf_of c.in-Single.leaf in
     let old = map candidate_of c.leaves.found.items in
+    let empty : length c.leaves.rights.items ≡ 0 = omega (arith, c.in-None.ensures.cases.0) in
     let whole : with_rights c.leaves.rights.items (tree_of c.leaves.self) ≡ Single k
     = ap (λ t. with_rights c.leaves.rights.items (tree_of t)) c.in-Single.is
-    ∙ ap (λ bs. with_rights bs (Single k)) c.in-None.ensures.items in
+    ∙ ap (λ bs. with_rights bs (Single k)) (nil_from_length c.leaves.rights.items empty) in
     c.in_ok-push_some-in-Single.ensures
     ∙ ap (λ l. old ++ l) c.task_of.ensures
     ∙ ap (λ t. old ++ candidates t) (sym whole)
