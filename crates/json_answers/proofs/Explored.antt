@@ -64,7 +64,7 @@ module _ (s : Settings) (held : Held) (text : List ℕ) where
   -- ---- the object
 
   -- files were read before the choices
-  pub by_choices : (g : ProgramAndInput) → HasInput s held text (code_of g.typed) (lists_of g.input) → (mid : Held) → mid ≡ held
+  abbrev pub by_choices : (g : ProgramAndInput) → HasInput s held text (code_of g.typed) (lists_of g.input) → (mid : Held) → mid ≡ held
       → (cs : Vec ℕ Global) → AreChosen s.choices mid (code_of g.typed) (lists_of g.input) cs.items → IsRunByChoices s held text
   by_choices g given mid same cs chosen = record {
     code = code_of g.typed;

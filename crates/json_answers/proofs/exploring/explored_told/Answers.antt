@@ -22,10 +22,10 @@ returns-in_err-choices-clause-why g c =
     let text = c.args.question.text.now in let given = c.in_ok-given.given in
     fails_passed s held text c.from_residual-in_err-choices.result _ c.from_residual-in_err-choices.ensures.1
     (chosen_fails s held text (code_of given.typed) (lists_of given.input) c.in_ok-given.ensures.given _
-    (subst (λ (h : Held). TellsNoChoices s.choices h _) c.in_ok-given.ensures.keeps c.in_err-choices.ensures.why))
+    (subst (λ (h : Held). TellsNoChoices s.choices h c.in_err-choices.field-0.0) c.in_ok-given.ensures.keeps c.in_err-choices.ensures.why))
 
-pub returns-in-Err-clause-why : goal.returns-in-Err-clause-why
-returns-in-Err-clause-why g c =
+pub returns-in_default-clause-why : goal.returns-in_default-clause-why
+returns-in_default-clause-why g c =
     memory_fails (settings c.args.question.settings) (g.F.FileSource.held c.args.files.now) c.args.question.text.now
 
 pub returns-in-Ended-clause-object : goal.returns-in-Ended-clause-object
