@@ -1,4 +1,4 @@
-use Rattle.std.proofs.Common.{◌≡◌, ◌∷◌, [], ◌++◌, ℕ, List, ap, ◌∙◌, map, refl, subst, sym, length, arith}
+use Rattle.std.proofs.Common.{◌≡◌, ◌∷◌, [], ◌++◌, ℕ, List, ap, ◌∙◌, map, refl, subst, sym, length, arith, rules}
 use Rattle.std.proofs.lemmas.List.{length-map}
 use Rattle.types.specs.Translation.{array, input, outcome}
 use Rattle.types.specs.Typed.{code_of}
@@ -34,7 +34,7 @@ returns-in-Ok c =
     let ws = map (λ v. v.items) old.waiting.items in
     let tasks = map candidate_of c.in-Open.tasks.items in
     let stands = ap (standing p i) (sym c.deref.ensures.value) ∙ sym c.in_ok-stands.ensures ∙ ap standing_of c.in-Open.is in
-    let number : c.in-Ok.count ≡ c.len.result = c.in-Ok.ensures.1 in
+    let number : c.in-Ok.count ≡ c.len.result = search rules in
     let all : c.len.result ≡ length c.in-Open.tasks.items = omega (arith, c.len.ensures) in
     let count : c.in-Ok.count ≡ length tasks = number ∙ all ∙ sym (length-map candidate_of c.in-Open.tasks.items) in
     let search = open_search p i places ws c.args.choices.items old.ends.items c.requires.search tasks c.in-Ok.count stands count in
