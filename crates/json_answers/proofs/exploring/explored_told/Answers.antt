@@ -35,7 +35,7 @@ returns-in-Ended-clause-object g c =
     let run = by_choices s held text given c.in_ok-given.ensures.given _ c.in_ok-given.ensures.keeps c.in_ok-choices.choices
     c.in_ok-choices.ensures.chosen in
     object_ended s held text run (outcome_of c.in-Ended.outcome) _
-    (declared_of _ _ _ c.deref-in-Ended.ensures.value c.code.ensures.field)
+    (declared_of _ _ given.typed c.deref-in-Ended.ensures.value c.code.ensures.field)
     (sym (ap standing_of c.in-Ended.is) ∙ stands_by given.typed given.input _ _ c.deref.ensures.value _ c.in-Ok.ensures)
     c.outcome_told.result c.outcome_told.ensures.object
 
