@@ -1,6 +1,6 @@
-use Rattle.std.proofs.Common.{◌≡◌, ◌∷◌, [], ◌++◌, ℕ, List, ap, ◌∙◌, map, refl, subst, sym, length, arith, rules}
+use Rattle.std.proofs.Common.{◌≡◌, ◌++◌, ap, ◌∙◌, map, refl, subst, sym, length, arith, rules}
 use Rattle.std.proofs.lemmas.List.{length-map}
-use Rattle.types.specs.Translation.{array, input, outcome}
+use Rattle.types.specs.Translation.{input, outcome}
 use Rattle.types.specs.Typed.{code_of}
 use Rattle.statement_steps.proofs.Steps.{on_ok_both}
 use Rattle.commands.proofs.Answering.{declared_of}

@@ -1,6 +1,5 @@
 use Rattle.std.proofs.Common.{◌≡◌, ◌∷◌, [], ◌++◌, map, suc, sym, ap, ◌∙◌, rules}
 use Rattle.std.proofs.lemmas.List.{append_assoc, append-nil, map-append}
-use Rattle.std.specs.Prelude.{ℕ, List}
 use Rattle.json_answers.specs.AllEnds.{further}
 use Rattle.json_answers.proofs.all_ends.wait_further.Goals as goal
 

@@ -1,6 +1,6 @@
-use Rattle.std.proofs.Common.{◌≡◌, ◌+◌, ◌<◌, [], ◌++◌, length, map, suc, sym, ap, ◌∙◌, arith}
+use Rattle.std.proofs.Common.{◌≡◌, ◌+◌, ◌<◌, ◌++◌, length, map, suc, sym, ap, ◌∙◌, arith}
 use Rattle.std.proofs.lemmas.List.{append_assoc, nil_from_length}
-use Rattle.types.specs.Trees.{AndThen, Beside, Single}
+use Rattle.types.specs.Trees.{Beside, Single}
 use Rattle.step_trees.specs.Held.{tree_of}
 use Rattle.step_trees.specs.Standing.{candidate_of, candidates, listed}
 use Rattle.step_trees.specs.Translation.{leaf_of, handler_of}
