@@ -39,10 +39,12 @@ returns-in-Ok c =
     let number : c.in-Ok.count ≡ c.len.result = search rules in
     let all : c.len.result ≡ length c.in-Open.tasks.items = omega (arith, c.len.ensures) in
     let count : c.in-Ok.count ≡ length tasks = number ∙ all ∙ sym (length-map c.in-Open.tasks.items candidate_of) in
-    let search = open_search p i places ws c.args.choices.items old.ends.items c.requires.search tasks c.in-Ok.count stands count in
+    let more = further c.deref-in-Ok.result.now c.in-Ok.count in
+    let search = subst (λ cs. IsSearchWith p i places (ws ++ further cs c.in-Ok.count) old.ends.items) (sym c.deref-in-Ok.ensures.value)
+    (open_search p i places ws c.args.choices.items old.ends.items c.requires.search tasks c.in-Ok.count stands count) in
     on_ok_both c.wait_further.result
     (λ waiting ends. subst (λ vs. IsSearchWith p i places vs c.wait_further.new.search.ends.items) (sym waiting)
-    (subst (λ es. IsSearchWith p i places (ws ++ further c.args.choices.items c.in-Ok.count) es.items) (sym ends) search))
+    (subst (λ es. IsSearchWith p i places (ws ++ more) es.items) (sym ends) search))
     c.wait_further.ensures.waiting c.wait_further.ensures.ends
 
 pub returns : goal.returns
