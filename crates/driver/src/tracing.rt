@@ -197,7 +197,7 @@ fn traced<R: Threads + Wait + Sync>(
 
 /// A run whose events were drawn from a seed.
 #[derive(Drop)]
-struct Drawn {
+struct DrawnRun {
     outcome: Outcome,
     events: Vec<Event>,
 }
@@ -216,7 +216,7 @@ fn drawn_and_told(
         (lists_in given.now.input) (settings_of settings.entry) (string_bytes r.1)) }
     ensures why { IfErr result (TellsNoOutcome (settings_of settings.entry)) }
 {
-    let Drawn { outcome, events } = drawn(alloc, settings, given, seed)?;
+    let DrawnRun { outcome, events } = drawn(alloc, settings, given, seed)?;
     match lines_of(alloc, settings, given, &events) {
         Ok(lines) => Ok((outcome, lines)),
         Err(failure) => Err(failure),
@@ -229,7 +229,7 @@ fn drawn(
     settings: RunOptions<'_>,
     given: &Begun,
     seed: u64,
-) -> Result<Drawn, Failure>
+) -> Result<DrawnRun, Failure>
     requires { Fits given.now.accepted.typed given.now.input }
     ensures outcome { IfOk result
         (λ d. IsOutcomeOf given.now.accepted.typed given.now.input settings.entry.budget d.outcome) }
@@ -248,7 +248,7 @@ fn drawn(
     let Walk { events, world } = walk;
     // Without an outcome, a task needs weight from a scope that has issued it 2^31 times.
     match world.told {
-        Some(outcome) => Ok(Drawn { outcome, events }),
+        Some(outcome) => Ok(DrawnRun { outcome, events }),
         None => Err(Failure::NoMemory),
     }
 }
