@@ -19,7 +19,7 @@ use Rattle.types.specs.Translation.{outcome as outcome_in}
 use Rattle.step_trees.specs.Standing.{Candidate, EndsBeyond, HasEnded, MayStep, Misses, Standing, standing}
 use Rattle.step_trees.proofs.Extending.{beyond}
 use Rattle.json_answers.specs.declared.all_ends.FoundEnd.{FoundEnd}
-use Rattle.json_answers.specs.AllEnds.{AreAllEnds, AreEnds, End, IsReached, end_lines, end_of, further, is_new_in, line_of_end, noted, outcome_line}
+use Rattle.json_answers.specs.AllEnds.{AreEnds, End, IsReached, end_lines, end_of, further, is_new_in, line_of_end, noted, outcome_line}
 use Rattle.json_answers.specs.Searching.{IsSearchWith, Searches, Waits}
 
 -- ---- lines
@@ -79,14 +79,6 @@ module _ (p : Program) (input : List (List ℤ)) (places : List TextPlace) where
     ends = record { reached = All-nil (IsReached p input); differ = λ i j d less below. let never : ⊥ = omega (arith, below) in absurd never };
     covers = λ choices o e. inr (record { first = []; rest = choices; waits = (0, omega arith, refl); begins = refl });
   }
-
-  pub searches_done : (es : List End) → Searches p input places [] es → AreAllEnds p input places es
-  searches_done es s choices o e = by (s.covers choices o e)
-    where
-      by : (Contains (end_lines p places es) (outcome_line p places o)) ⊎ Waits [] choices
-          → Contains (end_lines p places es) (outcome_line p places o)
-      by (inl found) = found
-      by (inr w) = let less = w.waits.1 in let never : ⊥ = omega (arith, less) in absurd never
 
   -- an end is added if its line is new
   module _ (es : List End) (e : End) (are : AreEnds p input places es) (reached : IsReached p input e) where
