@@ -17,6 +17,7 @@ use commands::question::{Begun, Question};
 use event_worlds::error::ReplayError;
 use event_worlds::job::WeightedJob;
 use event_worlds::walk::{Walk, random_walk};
+use event_worlds::world::World;
 use events::event::Event;
 use failures::failure::Failure;
 use files::file_source::{FileSource, write_file};
@@ -246,8 +247,9 @@ fn drawn(
         return Err(Failure::NoMemory);
     };
     let Walk { events, world } = walk;
+    let World { told, .. } = world;
     // Without an outcome, a task needs weight from a scope that has issued it 2^31 times.
-    match world.told {
+    match told {
         Some(outcome) => Ok(DrawnRun { outcome, events }),
         None => Err(Failure::NoMemory),
     }
