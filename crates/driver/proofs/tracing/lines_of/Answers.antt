@@ -38,6 +38,7 @@ unreachable-requires c =
     let es = map event_of c.args.events.now in
     let on = c.run_settings.ensures in
     let h = c.header_of-header in
+    let refused = rw c.in-Err-IllegalAt.field-0-is at c.in-Err-IllegalAt.ensures.refused in
     legal_or_not (sym c.requires.events.legal
     ∙ sym (ap (λ (b : Budget). replayed p s.spread.w0 input (budget b) es) (h.ensures.budget ∙ on.budget))
-    ∙ sym (ap (λ (n : ℕ). replayed p n input (budget h.result.budget) es) (h.ensures.w0 ∙ on.w0)) ∙ c.in-Err-IllegalAt.ensures.refused)
+    ∙ sym (ap (λ (n : ℕ). replayed p n input (budget h.result.budget) es) (h.ensures.w0 ∙ on.w0)) ∙ refused)
