@@ -1,4 +1,4 @@
-use Rattle.std.proofs.Common.{ap, ◌∙◌, map, subst}
+use Rattle.std.proofs.Common.{◌≡◌, ap, ◌∙◌, map, subst}
 use Rattle.types.specs.Outcome.{outcome}
 use Rattle.types.specs.Translation.{budget, outcome as outcome_in}
 use Rattle.event_worlds.specs.declared.job.WeightedJob.{WeightedJob}
