@@ -1,7 +1,7 @@
 """Makes the page with the program in it; web/make.sh says how. Each step is one function of `main`, in order."""
 import base64
-import gzip
 import json
+import lzma
 import os
 import re
 import shutil
@@ -16,6 +16,9 @@ MOST = 1_500_000
 LAYOUT = "e-m:e-p:64:64-p10:8:8-p20:8:8-i64:64-i128:128-n32:64-S128-ni:1:10:20"
 TARGET = "wasm64-unknown-unknown"
 STACK = 8 << 20
+# Longer searches make the page smaller, and cost the browser nothing. web/unpack.js knows lc, lp and pb.
+PACKING = [{"id": lzma.FILTER_LZMA1, "dict_size": 1 << 24, "lc": 3, "lp": 0, "pb": 0, "mode": lzma.MODE_NORMAL, "nice_len": 273,
+            "mf": lzma.MF_BT4, "depth": 1000}]
 
 
 def main():
@@ -221,14 +224,15 @@ def commit():
 
 def write_page(wasm, page):
     with open(wasm, "rb") as file:
-        packed = base64.b64encode(gzip.compress(file.read(), 9, mtime=0)).decode()
-    worker = read(HERE, "host.js") + read(HERE, "work.js")
+        plain = file.read()
+    letters = base64.b64encode(lzma.compress(plain, format=lzma.FORMAT_RAW, filters=PACKING)).decode()
+    worker = read(HERE, "host.js") + read(HERE, "unpack.js") + read(HERE, "work.js")
     parts = {
         "/*STYLE*/": read(HERE, "page.css"),
         "/*WORKER*/": worker.replace("</", "<\\/"),
         "/*PAGE*/": read(HERE, "text.js") + read(HERE, "page.js"),
         "/*EXAMPLES*/": json.dumps(examples()).replace("<", "\\u003c"),
-        "/*MODULE*/": packed,
+        "/*MODULE*/": f"{len(plain)}:{letters}",
         "@COMMIT@": commit(),
     }
     whole = read(HERE, "page.html")

@@ -2,10 +2,10 @@
 "use strict";
 let module;
 
-async function unpacked(packed) {
-  const bytes = Uint8Array.from(atob(packed), letter => letter.charCodeAt(0));
-  const plain = new Blob([bytes]).stream().pipeThrough(new DecompressionStream("gzip"));
-  return new Response(plain).arrayBuffer();
+// The module, of its size and its packed bytes in letters.
+function unpacked(packed) {
+  const [size, letters] = packed.split(":");
+  return expanded(Uint8Array.from(atob(letters), letter => letter.charCodeAt(0)), Number(size));
 }
 
 function answer({ id, words, files }) {
@@ -26,7 +26,7 @@ onmessage = async event => {
     postMessage({ ready: true });
   } else if (asked.packed) {
     try {
-      const bytes = await unpacked(asked.packed);
+      const bytes = unpacked(asked.packed);
       module = await WebAssembly.compile(bytes);
       postMessage({ ready: true, module, bytes: bytes.byteLength });
     } catch (error) {

@@ -4,6 +4,7 @@
     play.py PAGE [--pictures FOLDER] [NAME..]
 
 NAME is one of the tests: race, ends, answers, traced, typed, shared, stopped, looks, compared. AFX names the program. With NATIVE=1 each command of the page is a run of AFX: then only the page's own code is tested.
+With BROWSER=firefox it is a Firefox, and the test of dark and light is left out.
 Prints each wrong answer; the last line is `N passed, M failed`.
 """
 import json
@@ -16,11 +17,13 @@ import time
 
 sys.dont_write_bytecode = True
 from browser import Browser  # noqa: E402
+from firefox import Firefox  # noqa: E402
 
 TOP = pathlib.Path(__file__).resolve().parent.parent.parent
 os.chdir(TOP)
 AFX = [os.path.abspath(word) if os.path.exists(word) else word for word in os.environ.get("AFX", str(TOP / "afx")).split()]
 NATIVE = bool(os.environ.get("NATIVE"))
+IN_FIREFOX = os.environ.get("BROWSER") == "firefox"
 # Nine command lines for each program. `T` is a trace that is written.
 COMMANDS = ["inspect", "mhp --by-line", "list --lines", "fmt", "check --explain --warn", "serial --explain --arrays", "cost --by-line",
             "explore --random 7 --explain", "walk --workers 3 --seed 1 --trace T"]
@@ -108,6 +111,8 @@ def opened(browser, page, link):
 def in_frame(browser, text):
     """The value of an expression in the frame of the page, which the browser may run apart."""
     browser.frames()
+    if IN_FIREFOX:
+        return browser.in_frame(text)
     own = browser.session
     tree = browser.ask("Page.getFrameTree")["frameTree"]
     if "childFrames" in tree:
@@ -267,6 +272,8 @@ def stopped(browser, page):
 
 
 def looks(browser, page):
+    if IN_FIREFOX:
+        return
     browser.media("dark")
     opened(browser, page, "#example=race")
     judged(browser)
@@ -300,7 +307,7 @@ def main():
     pictures = names.pop(1) if names[:1] == ["--pictures"] else None
     if pictures:
         names.pop(0)
-    browser = Bridged(1440, 900)
+    browser = Firefox(1440, 900) if IN_FIREFOX else Bridged(1440, 900)
     try:
         for test in TESTS:
             if not names or test.__name__ in names:

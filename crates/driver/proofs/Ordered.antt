@@ -58,6 +58,14 @@ module _ (held later : Held) (old new err_old err_new : Option (List ℕ)) (stat
     reports = subst (λ (n : More). Reports n err_old err_new r status) is reports;
   }
 
+  pub inspected_as : (a : Asked) (r : Result ℕ Failure) (m : More) → m ≡ nothing_more → ReadsAnd Inspecting a held later old new r
+      → Reports m err_old err_new r status → InspectsAs a held later old new err_old err_new status
+  inspected_as a r m is does reports = record {
+    result = r;
+    does = does;
+    reports = subst (λ (n : More). Reports n err_old err_new r status) is reports;
+  }
+
 module _ (named : Folders) (held later : Held) (old new err_old err_new : Option (List ℕ)) (status : ℕ) where
   -- nothing follows
   bare : (r : Result ℕ Failure) (m : More) → m ≡ nothing_more → Reports m err_old err_new r status
@@ -73,10 +81,6 @@ module _ (named : Folders) (held later : Held) (old new err_old err_new : Option
       → TellsTests named held names writes s later old new r → Reports m err_old err_new r status
       → TellsTestsAs names writes s named held later old new err_old err_new status
   told_as names writes s r m is does reports = record { result = r; does = does; reports = bare r m is reports }
-
-  pub inspected_as : (a : Asked) (r : Result ℕ Failure) (m : More) → m ≡ nothing_more → ReadsAnd Inspecting a held later old new r
-      → Reports m err_old err_new r status → InspectsAs a held later old new err_old err_new status
-  inspected_as a r m is does reports = record { result = r; does = does; reports = bare r m is reports }
 
   -- one order is another
   pub ordered : (at_terminal : Bool) (o p : Order) → o ≡ p

@@ -17,6 +17,7 @@ use commands::question::{Begun, Question};
 use event_worlds::error::ReplayError;
 use event_worlds::job::WeightedJob;
 use event_worlds::walk::{Walk, random_walk};
+use event_worlds::world::World;
 use events::event::Event;
 use failures::failure::Failure;
 use files::file_source::{FileSource, write_file};
@@ -197,7 +198,7 @@ fn traced<R: Threads + Wait + Sync>(
 
 /// A run whose events were drawn from a seed.
 #[derive(Drop)]
-struct Drawn {
+struct DrawnRun {
     outcome: Outcome,
     events: Vec<Event>,
 }
@@ -216,7 +217,7 @@ fn drawn_and_told(
         (lists_in given.now.input) (settings_of settings.entry) (string_bytes r.1)) }
     ensures why { IfErr result (TellsNoOutcome (settings_of settings.entry)) }
 {
-    let Drawn { outcome, events } = drawn(alloc, settings, given, seed)?;
+    let DrawnRun { outcome, events } = drawn(alloc, settings, given, seed)?;
     match lines_of(alloc, settings, given, &events) {
         Ok(lines) => Ok((outcome, lines)),
         Err(failure) => Err(failure),
@@ -229,7 +230,7 @@ fn drawn(
     settings: RunOptions<'_>,
     given: &Begun,
     seed: u64,
-) -> Result<Drawn, Failure>
+) -> Result<DrawnRun, Failure>
     requires { Fits given.now.accepted.typed given.now.input }
     ensures outcome { IfOk result
         (λ d. IsOutcomeOf given.now.accepted.typed given.now.input settings.entry.budget d.outcome) }
@@ -246,9 +247,10 @@ fn drawn(
         return Err(Failure::NoMemory);
     };
     let Walk { events, world } = walk;
+    let World { told, .. } = world;
     // Without an outcome, a task needs weight from a scope that has issued it 2^31 times.
-    match world.told {
-        Some(outcome) => Ok(Drawn { outcome, events }),
+    match told {
+        Some(outcome) => Ok(DrawnRun { outcome, events }),
         None => Err(Failure::NoMemory),
     }
 }

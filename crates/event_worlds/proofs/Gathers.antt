@@ -16,7 +16,7 @@ use Rattle.types.specs.declared.path.Path.{Path}
 use Rattle.effects.specs.Needs.{Needs}
 use Rattle.effects.specs.Rounds.{needs_of}
 use Rattle.task_run.specs.Apart.{is_stopped}
-use Rattle.task_run.specs.Frames.{Frame, Rest, Again, Further, AtEnd, OnFault, Back, frame, resume, Follows}
+use Rattle.task_run.specs.Frames.{Frame, Rest, Again, Further, AtEnd, OnFault, Back, Standing, frame, resume, Follows}
 use Rattle.task_run.specs.Jobs.{program_of, lists_of, budget_of}
 use Rattle.task_run.specs.OwnRun.{Start, Own, EndFinish, notes, is_waiting, result_of, leave_with, leave_own, own_rules}
 use Rattle.task_run.specs.OwnRun.{from_receipts, run_by}
@@ -53,10 +53,6 @@ use Rattle.event_worlds.proofs.Turning.{its_task}
 pub before_one_more : (cs : List Listed) (c : Listed) → before_children (cs ++ c ∷ []) ≡ before_children cs + length c.faults
 before_one_more [] c = omega arith
 before_one_more (d ∷ cs) c = let rest = before_one_more cs c in omega (arith, rest)
-
-pub before_more : (cs ds : List Listed) → before_children (cs ++ ds) ≡ before_children cs + before_children ds
-before_more [] ds = refl
-before_more (c ∷ cs) ds = let rest = before_more cs ds in omega (arith, rest)
 
 pub one_result_more : (rs : List TaskResult) (r : TaskResult) → faults_of (rs ++ r ∷ []) ≡ faults_of rs + faults_in r
 one_result_more [] r = omega arith
@@ -165,7 +161,7 @@ module _ (r : rWorld) (ok : IsWeightedJob r.job) (w : World) (h : Shows r w) (pa
   made_faults : (c : Course) (d : TaskProgress) (made : Made) → made_at d ≡ Some made → IsDoing r.job.job c d
       → faults_in (gives c.start c.receipts) ≡ faults_in (task_result made)
   made_faults c (AtFinish q x) made e d =
-      let at = record { frames = AtEnd d.1.before ∷ d.1.frames; state = d.1.state } in
+      let at : Standing Own = record { frames = AtEnd d.1.before ∷ d.1.frames; state = d.1.state } in
       let its = its_task r.job.job ok.job c.start at d.1.come.stands in
       follower_faults p (needs_of p) (budget_of r.job.job).steps root_start c.start c.receipts d.1.before d.1.frames d.1.state its.awake
       d.1.come.follows
@@ -180,10 +176,10 @@ module _ (r : rWorld) (ok : IsWeightedJob r.job) (w : World) (h : Shows r w) (pa
   made_faults c (Spawns q s) made e d = absurd (none-some _ e)
   made_faults c (Opens q) made e d = absurd (none-some _ e)
 
-  t : (t : Live) × (task path.turns.items w.live ≡ Some t) × IsTaskOf r.job.job m.at.its t
+  abbrev t : (t : Live) × (task path.turns.items w.live ≡ Some t) × IsTaskOf r.job.job m.at.its t
   t = there (IsTaskOf r.job.job) m.at.its (get is_path r.tasks path) (task path.turns.items w.live) (h.tasks path) m.at.at
 
-  b : (z : Scope) × (scope (scope_id m.at.inner.scope) w.scopes ≡ Some z) × IsBookOf m.at.book z
+  abbrev b : (z : Scope) × (scope (scope_id m.at.inner.scope) w.scopes ≡ Some z) × IsBookOf m.at.book z
   b = there IsBookOf m.at.book (get is_scope r.scopes m.at.inner.scope) (scope (scope_id m.at.inner.scope) w.scopes)
       (h.scopes m.at.inner.scope) m.at.there
 

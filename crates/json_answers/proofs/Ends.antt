@@ -1,11 +1,11 @@
 -- The search for the ends of a program's runs: what one more list of choices changes.
 use Rattle.std.proofs.Common.{◌≡◌, ◌≢◌, ◌<◌, ℕ, ℤ, zero, suc, List, [], ◌∷◌, ◌++◌, length, map, get_or, inl, inr, refl, sym, ap, ◌∙◌, subst, arith}
 use Rattle.std.proofs.Common.{true≢false}
-use Rattle.std.proofs.lemmas.List.{append_assoc, append-nil, map-append}
+use Rattle.std.proofs.lemmas.List.{append_assoc, map-append}
 use Rattle.std.proofs.lemmas.List.Elements.{All-push, All-nil, Contains-append_left, Contains-append_right, Contains-append_cases}
 use Rattle.std.proofs.lemmas.List.Quantifiers.{all_pairs_push}
 use Rattle.std.proofs.lemmas.Slice.Eq.{bytes_eq-Decides}
-use Rattle.std.proofs.lemmas.Bool.{eqb-eq}
+use Rattle.std.proofs.lemmas.Bool.{eqb-true}
 use Rattle.std.proofs.lemmas.Bool.Decides.{nat_tests}
 use Rattle.std.specs.Prelude.{◌⊎◌, Bool, true, false, nat_eq, if◌then◌else◌}
 use Rattle.std.specs.List.{AllPairs, Contains}
@@ -19,7 +19,7 @@ use Rattle.types.specs.Translation.{outcome as outcome_in}
 use Rattle.step_trees.specs.Standing.{Candidate, EndsBeyond, HasEnded, MayStep, Misses, Standing, standing}
 use Rattle.step_trees.proofs.Extending.{beyond}
 use Rattle.json_answers.specs.declared.all_ends.FoundEnd.{FoundEnd}
-use Rattle.json_answers.specs.AllEnds.{AreAllEnds, AreEnds, End, IsReached, end_lines, end_of, further, is_new_in, line_of_end, noted, outcome_line}
+use Rattle.json_answers.specs.AllEnds.{AreEnds, End, IsReached, end_lines, end_of, further, is_new_in, line_of_end, noted, outcome_line}
 use Rattle.json_answers.specs.Searching.{IsSearchWith, Searches, Waits}
 
 -- ---- lines
@@ -28,22 +28,23 @@ use Rattle.json_answers.specs.Searching.{IsSearchWith, Searches, Waits}
 pub new_differs : (line : List ℕ) (xs : List (List ℕ)) → is_new_in line xs ≡ true → (k : ℕ) (d : List ℕ) → k < length xs
     → get_or xs k d ≢ line
 new_differs line [] e k d less = let never : ⊥ = omega (arith, less) in absurd never
-new_differs line (x ∷ xs) e k d less = by (bytes_eq x line) refl e k less
+new_differs line (x ∷ xs) e k d less = by (bytes_eq x line) refl e k less (new_differs line xs)
   where
     by : (b : Bool) → bytes_eq x line ≡ b → (if b then false else is_new_in line xs) ≡ true → (k : ℕ) → k < length (x ∷ xs)
-        → get_or (x ∷ xs) k d ≢ line
-    by true is h k less = let bad : false ≡ true = h in cc
-    by false is h zero less = λ same. true≢false (sym ((bytes_eq-Decides x line).1 same) ∙ is)
-    by false is h (suc j) less = new_differs line xs h j d (omega (arith, less))
+        → (is_new_in line xs ≡ true → (j : ℕ) (d : List ℕ) → j < length xs → get_or xs j d ≢ line) → get_or (x ∷ xs) k d ≢ line
+    by true is h k less later = let bad : false ≡ true = h in cc
+    by false is h zero less later = λ same. true≢false (sym ((bytes_eq-Decides x line).1 same) ∙ is)
+    by false is h (suc j) less later = later h j d (omega (arith, less))
 
 -- another one is among them
 pub known_contained : (line : List ℕ) (xs : List (List ℕ)) → is_new_in line xs ≡ false → Contains xs line
 known_contained line [] e = let bad : true ≡ false = e in cc
-known_contained line (x ∷ xs) e = by (bytes_eq x line) refl e
+known_contained line (x ∷ xs) e = by (bytes_eq x line) refl e (known_contained line xs)
   where
-    by : (b : Bool) → bytes_eq x line ≡ b → (if b then false else is_new_in line xs) ≡ false → Contains (x ∷ xs) line
-    by true is h = (0, omega arith, (bytes_eq-Decides x line).0 is)
-    by false is h = let r = known_contained line xs h in let less = r.1 in (suc r.0, omega (arith, less), r.2)
+    by : (b : Bool) → bytes_eq x line ≡ b → (if b then false else is_new_in line xs) ≡ false
+        → (is_new_in line xs ≡ false → Contains xs line) → Contains (x ∷ xs) line
+    by true is h later = (0, omega arith, (bytes_eq-Decides x line).0 is)
+    by false is h later = let r = later h in let less = r.1 in (suc r.0, omega (arith, less), r.2)
 
 pub last_contained : {A : Type 0} (xs : List A) (x : A) → Contains (xs ++ x ∷ []) x
 last_contained xs x = Contains-append_right xs (x ∷ []) x (0, omega arith, refl)
@@ -55,15 +56,15 @@ only_contained x y (suc k, less, same) = let never : ⊥ = omega (arith, less) i
 -- each choice below the number is added to the list
 pub further_contained : (cs : List ℕ) (n c : ℕ) → c < n → Contains (further cs n) (cs ++ c ∷ [])
 further_contained cs zero c less = let never : ⊥ = omega (arith, less) in absurd never
-further_contained cs (suc n) c less = by (nat_eq c n) refl
+further_contained cs (suc n) c less = by (nat_eq c n) refl (further_contained cs n c)
   where
-    by : (b : Bool) → nat_eq c n ≡ b → Contains (further cs (suc n)) (cs ++ c ∷ [])
-    by true is =
-        let same : c ≡ n = eqb-eq c n is in
+    by : (b : Bool) → nat_eq c n ≡ b → (c < n → Contains (further cs n) (cs ++ c ∷ [])) → Contains (further cs (suc n)) (cs ++ c ∷ [])
+    by true is later =
+        let same : c ≡ n = eqb-true c n is in
         (0, omega arith, ap (λ (m : ℕ). cs ++ m ∷ []) (sym same))
-    by false is =
+    by false is later =
         let below : c < n = grind (arith, nat_tests) in
-        let r = further_contained cs n c below in let inside = r.1 in
+        let r = later below in let inside = r.1 in
         (suc r.0, omega (arith, inside), r.2)
 
 -- ---- the search
@@ -78,14 +79,6 @@ module _ (p : Program) (input : List (List ℤ)) (places : List TextPlace) where
     ends = record { reached = All-nil (IsReached p input); differ = λ i j d less below. let never : ⊥ = omega (arith, below) in absurd never };
     covers = λ choices o e. inr (record { first = []; rest = choices; waits = (0, omega arith, refl); begins = refl });
   }
-
-  pub searches_done : (es : List End) → Searches p input places [] es → AreAllEnds p input places es
-  searches_done es s choices o e = by (s.covers choices o e)
-    where
-      by : (Contains (end_lines p places es) (outcome_line p places o)) ⊎ Waits [] choices
-          → Contains (end_lines p places es) (outcome_line p places o)
-      by (inl found) = found
-      by (inr w) = let less = w.waits.1 in let never : ⊥ = omega (arith, less) in absurd never
 
   -- an end is added if its line is new
   module _ (es : List End) (e : End) (are : AreEnds p input places es) (reached : IsReached p input e) where

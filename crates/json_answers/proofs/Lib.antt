@@ -7,6 +7,6 @@ pub mod ShallowRaces
 pub mod StatementValues
 pub mod SoFar
 pub mod Ends
-pub mod Exploring
+pub mod Explored
 pub mod Failures
 pub mod Written

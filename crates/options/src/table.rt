@@ -638,26 +638,44 @@ pub struct Range {
 pub fn owners_of(alloc: Global, option: &str) -> Result<Vec<&'static str>, AllocError> {
     let mut owners = Vec::new(alloc);
     for row in ROWS {
-        for entry in row.entries {
-            if entry.name == option && is_option(entry.takes) {
-                owners.push(row.name)?;
-            }
+        if has_option(row.entries, option) {
+            owners.push(row.name)?;
         }
     }
     Ok(owners)
 }
 
-/// Returns the numbers that the option with this name takes, if it takes one.
-pub fn range_of(option: &str) -> Option<Range> {
-    let mut range = None;
-    for row in ROWS {
-        for entry in row.entries {
-            if range.is_none() && entry.name == option {
-                range = numbers_of(entry.takes);
-            }
+/// Returns whether an option with this name is among the entries of a command.
+fn has_option(entries: &[Entry], option: &str) -> bool {
+    for entry in entries {
+        if entry.name == option && is_option(entry.takes) {
+            return true;
         }
     }
-    range
+    false
+}
+
+/// Returns the numbers that the option with this name takes, if it takes one.
+pub fn range_of(option: &str) -> Option<Range> {
+    for row in ROWS {
+        if let Some(range) = range_in(row.entries, option) {
+            return Some(range);
+        }
+    }
+    None
+}
+
+/// Returns the numbers that the option with this name takes, if it is among the entries of a command
+/// and takes one.
+fn range_in(entries: &[Entry], option: &str) -> Option<Range> {
+    for entry in entries {
+        if entry.name == option
+            && let Some(range) = numbers_of(entry.takes)
+        {
+            return Some(range);
+        }
+    }
+    None
 }
 
 /// Returns whether an entry is an option.

@@ -1,20 +1,29 @@
 -- Events with their numbers, one after the other.
-use Rattle.std.proofs.Common.{◌≡◌, List, [], ◌∷◌, ◌++◌, Some, append_assoc, ap, ◌∙◌, map, sym, subst}
+use Rattle.std.proofs.Common.{◌≡◌, ℕ, ◌+◌, List, [], ◌∷◌, ◌++◌, Some, append_assoc, ap, ◌∙◌, map, sym, subst}
 use Rattle.std.proofs.lemmas.List.{map-append}
 use Rattle.effects.specs.Rounds.{needs_of}
 use Rattle.task_run.specs.Jobs.{budget_of, program_of}
 use Rattle.events.specs.declared.event.Event.{Event}
 use Rattle.event_worlds.specs.Events.{Event as AnEvent}
 use Rattle.event_worlds.specs.Numbering.{if_legal, numbered_from}
+use Rattle.event_worlds.specs.Replay.{go_or, replay_from}
 use Rattle.event_worlds.specs.Replaying.{event}
 use Rattle.event_worlds.specs.Shown.{Shows, next_world}
 use Rattle.event_worlds.specs.Telling.{IsNumbered}
 use Rattle.event_worlds.specs.World.{World}
 use Rattle.event_worlds.specs.declared.job.WeightedJob.{WeightedJob}
 use Rattle.event_worlds.specs.declared.world.World.{World as rWorld}
+use Rattle.event_worlds.proofs.Replaying.{left_comes}
 
 abbrev pub from : WeightedJob → List AnEvent → World → List AnEvent
 from j = numbered_from (program_of j.job) (needs_of (program_of j.job)) (budget_of j.job).steps j.w0
+
+-- the replay of the rest of a list goes on after a legal event
+pub goes_to : (j : WeightedJob) (old : rWorld) → old.job ≡ j → (at to : World) (n : ℕ) (e : Event) (rest : List Event)
+    → next_world old.job (event e) at ≡ Some to → left_comes j n (e ∷ rest) at ≡ left_comes j (n + 1) rest to
+goes_to j old same at to n e rest legal =
+    ap (go_or n (replay_from (program_of j.job) (needs_of (program_of j.job)) (budget_of j.job).steps j.w0 (n + 1) (map event rest)))
+    (ap (λ k. next_world k (event e) at) (sym same) ∙ legal)
 
 module _ (r : rWorld) (at to : World) (e told : Event) (rest : List Event) (shows : Shows r at)
     (legal : next_world r.job (event e) at ≡ Some to) (numbered : IsNumbered r (event e) (event told)) where

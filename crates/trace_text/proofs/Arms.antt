@@ -1,17 +1,18 @@
 -- The text of an event's line for each kind, and the part of it that identifies the event.
-use Rattle.std.proofs.Common.{◌≡◌, ◌≢◌, ◌≤◌, ◌<◌, ◌^◌, ℕ, true, arith, leb-true, List, [], ◌∷◌, ◌++◌, Option, Some, refl, ap, sym, ◌∙◌, append-nil, codes}
+use Rattle.std.proofs.Common.{◌≡◌, ◌≤◌, ◌<◌, ◌^◌, ℕ, true, arith, leb-true, List, [], ◌∷◌, ◌++◌, Option, Some, refl, ap, sym, ◌∙◌, append-nil, codes}
 use Rattle.std.specs.Prelude.{None, sum, nat_eq, if◌then◌else◌}
 use Rattle.std.specs.Fmt.{decimal}
 use Rattle.events.specs.Events.{Event, Take, Steal, Pass, Resume}
 use Rattle.serde_json.specs.Written.{compact_text}
 use Rattle.std.proofs.lemmas.Bool.{false≢true}
 use Rattle.trace_text.specs.Fields.{counted_fields, fields, resume_fields, steal_fields, worker_fields}
-use Rattle.trace_text.specs.Headers.{TraceHeader, format_number}
+use Rattle.trace_text.specs.Headers.{TraceHeader, format_number, header_of}
 use Rattle.trace_text.specs.Kinds.{kind_name, kind_of, task_of}
 use Rattle.trace_text.specs.Lines.{event_object, header_object}
 use Rattle.trace_text.specs.Spelled.{Lacks, IsResumption, IsSpelled, IsTheft, IsWorkers, has_count}
 use Rattle.trace_text.specs.declared.format.Format.{Format}
 use Rattle.trace_text.specs.declared.format.Format.TheVariants.{One, Two}
+use Rattle.trace_text.specs.declared.header.Header.{Header}
 use Rattle.trace_text.specs.declared.kind.EventKind.{EventKind}
 use Rattle.trace_text.specs.declared.kind.EventKind.TheVariants.{Take as IsTake, Steal as IsSteal, Step as IsStep}
 use Rattle.trace_text.specs.declared.kind.EventKind.TheVariants.{Replenish as IsReplenish, Spawn as IsSpawn}
@@ -109,18 +110,30 @@ pub told_counted : (rest : List ℕ) (o : Option Event)
 told_counted rest o found w p None h same = absurd (false≢true h.count)
 told_counted rest o found w p (Some n) h same = found w p n h.by (count_small n h.count) same
 
--- the format with a number
-pub one_is : (f : Format) → 1 ≡ format_number f → Some One ≡ Some f
-one_is One e = refl
-one_is Two e = absurd (omega (arith, e))
+pub no_format : (f : Format) → None ≡ Some f → ⊥
+no_format f e = cc
 
-pub two_is : (f : Format) → 2 ≡ format_number f → Some Two ≡ Some f
-two_is One e = absurd (omega (arith, e))
-two_is Two e = refl
+-- headers with the same values
+abbrev header_with : Format → (steps nest w0 workers : ℕ) → TraceHeader
+header_with f s n w k = record { format = f; steps = s; nest = n; w0 = w; workers = k }
 
-pub no_other : (n : ℕ) → n ≢ 1 → n ≢ 2 → (f : Format) → n ≡ format_number f → ⊥
-no_other n one two One e = one e
-no_other n one two Two e = two e
+same_values : (f g : Format) (s t n m w v k l : ℕ) → f ≡ g → s ≡ t → n ≡ m → w ≡ v → k ≡ l
+    → header_with f s n w k ≡ header_with g t m v l
+same_values f g s t n m w v k l format steps nest w0 workers =
+    ap (λ (x : Format). header_with x s n w k) format
+    ∙ (ap (λ (x : ℕ). header_with g x n w k) steps
+    ∙ (ap (λ (x : ℕ). header_with g t x w k) nest
+    ∙ (ap (λ (x : ℕ). header_with g t m x k) w0 ∙ ap (λ (x : ℕ). header_with g t m v x) workers)))
+
+some_same : (f g : Format) → Some f ≡ Some g → f ≡ g
+some_same f g e = cc
+
+pub told_header : (r : Header) (h : TraceHeader) → Some r.format ≡ Some h.format → r.budget.steps ≡ h.steps → r.budget.nest ≡ h.nest
+    → r.w0 ≡ h.w0 → r.workers ≡ h.workers → Some (header_of r) ≡ Some h
+told_header r h format steps nest w0 workers =
+    ap (λ (x : TraceHeader). Some x)
+    (same_values r.format h.format r.budget.steps h.steps r.budget.nest h.nest r.w0 h.w0 r.workers h.workers
+    (some_same r.format h.format format) steps nest w0 workers)
 
 pub told_steal : (f : Format) (rest : List ℕ) (o : Option Event)
     → ((w from : ℕ) (p : List ℕ) → IsTheft w from p → rest ≡ steal_fields w from p → o ≡ Some (Steal w from p))

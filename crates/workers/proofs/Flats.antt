@@ -73,7 +73,10 @@ instruction_sync κ =
                                                             search (sendable, crosses) depth 30 fits 5000,
                                                             (
                                                               search (sendable, crosses) depth 30 fits 5000,
-                                                              (tt, tt),
+                                                              (
+                                                                search (sendable, crosses) depth 30 fits 5000,
+                                                                (tt, tt),
+                                                              ),
                                                             ),
                                                           ),
                                                         ),

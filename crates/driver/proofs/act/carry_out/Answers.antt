@@ -157,7 +157,7 @@ pub returns-in-Inspects-clause-acts : goal.returns-in-Inspects-clause-acts
 returns-in-Inspects-clause-acts g c =
     let asked = asked_of c.in-Inspects.request in let done = c.read_and_do-done-in-Inspects in
     ordered _ _ _ _ _ _ _ _ _ (Inspects asked) (order c.args.order) (sym (ap order c.in-Inspects.is))
-    (inspected_as _ _ _ _ _ _ _ _ asked (in_short done.result) _ c.nothing-more.ensures done.ensures.done
+    (inspected_as _ _ _ _ _ _ _ asked (in_short done.result) _ c.nothing-more.ensures done.ensures.done
     c.report-in-Inspects.ensures)
 
 pub returns-in-Inspects-clause-watched : goal.returns-in-Inspects-clause-watched

@@ -1,4 +1,4 @@
-use Rattle.std.proofs.Common.{◌≡◌, ◌+◌, arith, map}
+use Rattle.std.proofs.Common.{◌≡◌, ◌+◌, ◌∙◌, ap, arith, map}
 use Rattle.std.proofs.lemmas.List.{length-map}
 use Rattle.types.specs.Translation.{fault}
 use Rattle.task_run.specs.Translation.{listed, task_result}
@@ -20,4 +20,5 @@ returns c =
     let first = c.in-Some.ensures.1 in
     let all : c.in-Some.own + before_children (map listed made.children.items) ≡ c.args.number + faults_in (task_result made)
     = omega (arith, own, long, first) in
-    some_if c.before_children.result all c.before_children.ensures
+    some_if c.before_children.result
+    (ap (λ xs. c.in-Some.own + before_children (map listed xs)) c.deref.ensures.value ∙ all) c.before_children.ensures

@@ -1,4 +1,4 @@
-use Rattle.std.proofs.Common.{◌≡◌, ◌∷◌, [], ◌++◌, List, ap, ◌∙◌, map}
+use Rattle.std.proofs.Common.{◌∷◌, [], ◌++◌, List, ap, ◌∙◌, map}
 use Rattle.std.specs.Prelude.{ℕ}
 use Rattle.types.specs.Translation.{input}
 use Rattle.types.specs.Typed.{code_of}

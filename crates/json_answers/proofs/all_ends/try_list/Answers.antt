@@ -1,10 +1,12 @@
-use Rattle.std.proofs.Common.{◌≡◌, ◌∷◌, [], ◌++◌, ℕ, List, ap, ◌∙◌, map, refl, subst, sym, length}
+use Rattle.std.proofs.Common.{◌≡◌, ◌++◌, ap, ◌∙◌, map, refl, subst, sym, length, arith, rules}
 use Rattle.std.proofs.lemmas.List.{length-map}
-use Rattle.types.specs.Translation.{array, input, outcome}
+use Rattle.types.specs.Translation.{input, outcome}
 use Rattle.types.specs.Typed.{code_of}
 use Rattle.statement_steps.proofs.Steps.{on_ok_both}
 use Rattle.commands.proofs.Answering.{declared_of}
-use Rattle.step_trees.specs.Standing.{Candidate, candidate_of, standing, standing_of}
+use Rattle.step_trees.specs.Standing.{candidate_of, standing, standing_of}
+use Rattle.json_answers.specs.declared.all_ends.FoundEnd.{FoundEnd}
+use Rattle.json_answers.specs.AllEnds.{further, noted}
 use Rattle.json_answers.specs.Outcomes.{outcome_json}
 use Rattle.json_answers.specs.Pieces.{line}
 use Rattle.json_answers.specs.Searching.{IsSearchWith}
@@ -17,13 +19,14 @@ returns-in-Ended c =
     let old = c.args.search.now in
     let ws = map (λ v. v.items) old.waiting.items in
     let reached = ap (standing p i) (sym c.deref.ensures.value) ∙ sym c.in_ok-stands.ensures ∙ ap standing_of c.in-Ended.is in
-    let line_is = c.in_ok-line.ensures.text
+    let line_is = c.in_ok-line-in-Ended.ensures.text
     ∙ ap (λ ds. line (outcome_json ds places (outcome c.in-Ended.outcome)))
-    (declared_of _ _ _ c.deref-in-Ended.ensures.value c.code.ensures.field) in
-    let search = ended_search p i places ws c.args.choices.items old.ends.items _ c.requires.search reached refl line_is in
+    (declared_of _ _ s.typed.now c.deref-in-Ended.ensures.value c.code.ensures.field) in
+    let end : FoundEnd = record { choices = c.args.choices; outcome = c.in-Ended.outcome; line = c.in_ok-line-in-Ended.line } in
+    let search = ended_search p i places ws c.args.choices.items old.ends.items end c.requires.search reached refl line_is in
     on_ok_both c.note.result
     (λ ends waiting. subst (λ es. IsSearchWith p i places (map (λ v. v.items) c.note.new.search.waiting.items) es) (sym ends)
-    (subst (λ vs. IsSearchWith p i places (map (λ v. v.items) vs.items) _) (sym waiting) search))
+    (subst (λ vs. IsSearchWith p i places (map (λ v. v.items) vs.items) (noted old.ends.items end)) (sym waiting) search))
     c.note.ensures.ends c.note.ensures.waiting
 
 pub returns-in-Ok : goal.returns-in-Ok
@@ -33,11 +36,15 @@ returns-in-Ok c =
     let ws = map (λ v. v.items) old.waiting.items in
     let tasks = map candidate_of c.in-Open.tasks.items in
     let stands = ap (standing p i) (sym c.deref.ensures.value) ∙ sym c.in_ok-stands.ensures ∙ ap standing_of c.in-Open.is in
-    let count : c.in-Ok.count ≡ length tasks = ? in
-    let search = open_search p i places ws c.args.choices.items old.ends.items c.requires.search tasks c.in-Ok.count stands count in
+    let number : c.in-Ok.count ≡ c.len.result = search rules in
+    let all : c.len.result ≡ length c.in-Open.tasks.items = omega (arith, c.len.ensures) in
+    let count : c.in-Ok.count ≡ length tasks = number ∙ all ∙ sym (length-map c.in-Open.tasks.items candidate_of) in
+    let more = further c.deref-in-Ok.result.now c.in-Ok.count in
+    let search = subst (λ cs. IsSearchWith p i places (ws ++ further cs c.in-Ok.count) old.ends.items) (sym c.deref-in-Ok.ensures.value)
+    (open_search p i places ws c.args.choices.items old.ends.items c.requires.search tasks c.in-Ok.count stands count) in
     on_ok_both c.wait_further.result
     (λ waiting ends. subst (λ vs. IsSearchWith p i places vs c.wait_further.new.search.ends.items) (sym waiting)
-    (subst (λ es. IsSearchWith p i places _ es.items) (sym ends) search))
+    (subst (λ es. IsSearchWith p i places (ws ++ more) es.items) (sym ends) search))
     c.wait_further.ensures.waiting c.wait_further.ensures.ends
 
 pub returns : goal.returns

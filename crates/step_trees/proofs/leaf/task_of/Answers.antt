@@ -1,4 +1,4 @@
-use Rattle.std.proofs.Common.{ℕ, [], ◌∷◌, ap, sym, ◌∙◌}
+use Rattle.std.proofs.Common.{◌≡◌, ℕ, [], ◌∷◌, length, ap, sym, ◌∙◌, arith}
 use Rattle.std.proofs.lemmas.List.{nil_from_length}
 use Rattle.step_trees.specs.Standing.{Candidate, candidates_by}
 use Rattle.step_trees.specs.Translation.{blocks, leaf_of}
@@ -7,8 +7,8 @@ use Rattle.step_trees.proofs.leaf.task_of.Goals as goal
 
 pub returns-in-None : goal.returns-in-None
 returns-in-None c =
-    sym (ap (λ bs. candidates_by (blocks bs) (leaf_of c.args.leaf))
-    (nil_from_length c.args.leaf.rest.items c.in-None.ensures.cases.0))
+    let none : length c.args.leaf.rest.items ≡ 0 = omega (arith, c.in-None.ensures.cases.0) in
+    sym (ap (λ bs. candidates_by (blocks bs) (leaf_of c.args.leaf)) (nil_from_length c.args.leaf.rest.items none))
 
 pub returns : goal.returns
 returns c =

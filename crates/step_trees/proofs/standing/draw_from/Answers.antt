@@ -1,4 +1,4 @@
-use Rattle.std.proofs.Common.{◌≡◌, ◌<◌, [], ◌∷◌, ◌++◌, suc, refl, sym, ap, ◌∙◌, rules, arith}
+use Rattle.std.proofs.Common.{◌≡◌, ◌<◌, [], ◌∷◌, ◌++◌, suc, sym, ap, ◌∙◌, rules, arith}
 use Rattle.std.proofs.lemmas.List.{append_assoc, append-nil}
 use Rattle.types.specs.Translation.{program}
 use Rattle.types.specs.Trees.{ready}
@@ -9,7 +9,10 @@ use Rattle.step_trees.proofs.Drawing.{alike-drawn, drawn-none, drawn-over, drawn
 use Rattle.step_trees.proofs.standing.draw_from.Goals as goal
 
 pub choices-init : goal.choices-init
-choices-init c = record { held = c.requires; same = refl }
+choices-init c =
+    let p = program c.args.plan.program.now in
+    let t = whole c.args.course.place in let a = contents_of c.args.course.store in
+    record { held = c.requires; same = ap (λ l. l ++ drawn p 1000000 c.args.seed t a) c.new-choices.ensures.items }
 
 pub returns-then-leaves-eq0 : goal.returns-then-leaves-eq0
 returns-then-leaves-eq0 c =

@@ -1,4 +1,4 @@
-use Rattle.std.proofs.Common.{◌≡◌, [], sym, ◌∙◌, subst}
+use Rattle.std.proofs.Common.{subst}
 use Rattle.step_trees.specs.Alike.{AreAlike}
 use Rattle.step_trees.specs.Held.{tree_of, inside}
 use Rattle.step_trees.proofs.Walks.{up-by}

@@ -3,7 +3,7 @@ use Rattle.std.proofs.lemmas.Grind.{common_steps}
 use Rattle.std.specs.Fmt.{decimal}
 use Rattle.trace_text.specs.Spelled.{Lacks}
 use Rattle.trace_text.specs.Headers.{format_number}
-use Rattle.trace_text.proofs.Arms.{behind_format, behind_nest, behind_steps, behind_w0, most_format, text_of_front}
+use Rattle.trace_text.proofs.Arms.{behind_format, behind_nest, behind_steps, behind_w0, most_format, no_format, text_of_front, told_header}
 use Rattle.trace_text.proofs.Marks.{number_then_brace, number_then_comma}
 use Rattle.trace_text.proofs.read.header_in.Goals as goal
 
@@ -19,7 +19,7 @@ returns-in_err-number c = λ h fits same.
 pub returns-in_err-format : goal.returns-in_err-format
 returns-in_err-format c = λ h fits same.
     let number = number_in (format_number h.format) (behind_format h) (most_format h.format) c.in_ok-number.ensures (same ∙ text_of_front h) in
-    absurd (c.in_err-format.ensures h.format number.0)
+    absurd (no_format h.format (c.in_err-format.ensures h.format number.0))
 
 pub returns-in_err-nest : goal.returns-in_err-nest
 returns-in_err-nest c = λ h fits same.
@@ -76,4 +76,4 @@ returns c = λ h fits same.
     let steps = number_in h.steps (behind_steps h) (omega (arith, fits.most_steps)) c.in_ok-steps.ensures nest.1 in
     let w0 = number_in h.w0 (behind_w0 h) (omega (arith, fits.most_weight)) c.in_ok-w0.ensures steps.1 in
     let workers = c.in_ok-workers.ensures h.workers [] (omega (arith, fits.most_workers)) (number_then_brace h.workers) w0.1 in
-    first_of (search rules, grind (arith, common_steps))
+    first_of (search (rules, told_header), grind (arith, common_steps, told_header))

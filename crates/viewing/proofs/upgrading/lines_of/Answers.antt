@@ -16,13 +16,13 @@ use Rattle.viewing.proofs.upgrading.lines_of.Goals as goal
 pub write_lines-requires : goal.write_lines-requires
 write_lines-requires c =
     ap (λ (es : List Event). fits c.in-Ok.header.format es) c.deref-in-Ok.ensures.value
-    ∙ ap (λ (f : Format). fits f c.in-Ok.events.items) c.in-Ok.ensures.format ∙ c.in-Ok.ensures.fits_so
+    ∙ ap (λ (f : Format). fits f c.in-Ok.events.items) c.in-Ok.ensures.upgraded.format ∙ c.in-Ok.ensures.upgraded.fits_so
 
 pub returns-in_ok-text-in-Ok-clause-lines : goal.returns-in_ok-text-in-Ok-clause-lines
 returns-in_ok-text-in-Ok-clause-lines c =
     let given = c.args.judged.now.given in
     let h = c.args.judged.now.trace.header in
-    let up = c.in-Ok.ensures in
+    let up = c.in-Ok.ensures.upgraded in
     IfOk-at_ok _ c.in_ok-text-in-Ok.ensures.value c.write_lines.ensures
     ∙ ap (λ (es : List Event). trace_text (header_of c.in-Ok.header) (map event es)) c.deref-in-Ok.ensures.value
     ∙ ap (λ (t : TraceHeader). trace_text t (map event c.in-Ok.events.items))
@@ -34,5 +34,5 @@ returns-in_ok-text-in-Ok-clause-lines c =
 
 pub unreachable-requires : goal.unreachable-requires
 unreachable-requires c =
-    let refused = rw c.deref.ensures.value at c.in-Err-IllegalAt.ensures in
+    let refused = rw (c.in-Err-IllegalAt.field-0-is, c.deref.ensures.value) at c.in-Err-IllegalAt.ensures.refused in
     legal_or_not (sym c.requires.legal.legal ∙ refused)

@@ -1,6 +1,6 @@
-use Rattle.std.proofs.Common.{◌≡◌, ◌+◌, ◌<◌, [], ◌++◌, map, suc, sym, ap, ◌∙◌, arith}
-use Rattle.std.proofs.lemmas.List.{append_assoc, append-nil}
-use Rattle.types.specs.Trees.{AndThen, Beside, Single}
+use Rattle.std.proofs.Common.{◌≡◌, ◌+◌, ◌<◌, ◌++◌, length, map, suc, sym, ap, ◌∙◌, arith}
+use Rattle.std.proofs.lemmas.List.{append_assoc, nil_from_length}
+use Rattle.types.specs.Trees.{Beside, Single}
 use Rattle.step_trees.specs.Held.{tree_of}
 use Rattle.step_trees.specs.Standing.{candidate_of, candidates, listed}
 use Rattle.step_trees.specs.Translation.{leaf_of, handler_of}
@@ -78,13 +78,14 @@ leaves-preserved c =
     ∙ ap (λ t. old ++ candidates t) (sym whole)
     ∙ c.leaves.invariant
 
-pub returns-in-Single-None : goal.returns-in-Single-None
-returns-in-Single-None c =
+pub returns-in-None : goal.returns-in-None
+returns-in-None c =
     let k = leaf_of c.in-Single.leaf in
     let old = map candidate_of c.leaves.found.items in
+    let empty : length c.leaves.rights.items ≡ 0 = omega (arith, c.in-None.ensures.cases.0) in
     let whole : with_rights c.leaves.rights.items (tree_of c.leaves.self) ≡ Single k
     = ap (λ t. with_rights c.leaves.rights.items (tree_of t)) c.in-Single.is
-    ∙ ap (λ bs. with_rights bs (Single k)) c.in-None.ensures.items in
+    ∙ ap (λ bs. with_rights bs (Single k)) (nil_from_length c.leaves.rights.items empty) in
     c.in_ok-push_some-in-Single.ensures
     ∙ ap (λ l. old ++ l) c.task_of.ensures
     ∙ ap (λ t. old ++ candidates t) (sym whole)

@@ -19,7 +19,7 @@ use Rattle.failures.specs.declared.failure.Failure.TheVariants.{CannotWriteOutpu
 use Rattle.commands.specs.Answers.{HasInput, TellsNotGiven}
 use Rattle.command_line.specs.declared.request.Command.TheVariants.{Serial}
 use Rattle.commands.proofs.Answering.{IsOther, not_given_other, other_failure}
-use Rattle.json_answers.specs.Explored.{FailsUnexplored, IsRunByChoices, LacksChoosing, ObjectOfStanding, TellsOpen, TellsUnexplored, TellsWhere, not_chosen, not_given, no_memory, no_task}
+use Rattle.json_answers.specs.Explored.{FailsUnexplored, IsRunByChoices, ObjectOfStanding, TellsOpen, TellsWhere, not_chosen, not_given, no_memory, no_task}
 use Rattle.json_answers.specs.Objects.{TellsOutcome}
 use Rattle.json_answers.specs.declared.object_line.ObjectLine.{ObjectLine}
 
@@ -64,7 +64,7 @@ module _ (s : Settings) (held : Held) (text : List ℕ) where
   -- ---- the object
 
   -- files were read before the choices
-  pub by_choices : (g : ProgramAndInput) → HasInput s held text (code_of g.typed) (lists_of g.input) → (mid : Held) → mid ≡ held
+  abbrev pub by_choices : (g : ProgramAndInput) → HasInput s held text (code_of g.typed) (lists_of g.input) → (mid : Held) → mid ≡ held
       → (cs : Vec ℕ Global) → AreChosen s.choices mid (code_of g.typed) (lists_of g.input) cs.items → IsRunByChoices s held text
   by_choices g given mid same cs chosen = record {
     code = code_of g.typed;
