@@ -1,0 +1,65 @@
+use Rattle.std.proofs.Common.{refl, ap, ◌∙◌, sym}
+use Rattle.std.proofs.lemmas.Result.{on_ok_weaker}
+use Rattle.cost.specs.declared.frame.CostFrame.TheVariants.{Again, EndCall, Turns}
+use Rattle.cost.proofs.Going.{does_block, does_frame, does_turns, less_block, less_frame}
+use Rattle.cost.proofs.machine.CostMachine.take.Goals as goal
+
+pub returns-in-Block-clause-does : goal.returns-in-Block-clause-does
+returns-in-Block-clause-does c =
+    on_ok_weaker c.enter_block.result (does_block c.in-Block.block c.args.self.now c.enter_block.new.self c.requires.sound)
+    c.enter_block.ensures
+
+pub returns-in-Block-clause-ends : goal.returns-in-Block-clause-ends
+returns-in-Block-clause-ends c =
+    on_ok_weaker c.enter_block.result (less_block c.in-Block.block c.args.self.now c.enter_block.new.self) c.enter_block.ensures
+
+pub returns-in-Iteration-clause-does : goal.returns-in-Iteration-clause-does
+returns-in-Iteration-clause-does c =
+    let n = c.in-Iteration in
+    on_ok_weaker c.enter-in-Iteration.result
+    (does_frame (Again n.label n.guard n.body) n.body c.args.self.now c.enter-in-Iteration.new.self c.requires.sound tt)
+    c.enter-in-Iteration.ensures
+
+pub returns-in-Iteration-clause-ends : goal.returns-in-Iteration-clause-ends
+returns-in-Iteration-clause-ends c =
+    let n = c.in-Iteration in
+    on_ok_weaker c.enter-in-Iteration.result
+    (less_frame (Again n.label n.guard n.body) n.body c.args.self.now c.enter-in-Iteration.new.self refl)
+    c.enter-in-Iteration.ensures
+
+pub returns-in-Turns-clause-does : goal.returns-in-Turns-clause-does
+returns-in-Turns-clause-does c =
+    on_ok_weaker c.enter-in-Turns.result
+    (does_turns c.in-Turns.turns _ c.args.self.now c.enter-in-Turns.new.self refl c.requires.sound)
+    c.enter-in-Turns.ensures
+
+pub returns-in-Turns-clause-ends : goal.returns-in-Turns-clause-ends
+returns-in-Turns-clause-ends c =
+    on_ok_weaker c.enter-in-Turns.result
+    (less_frame (Turns c.in-Turns.turns) _ c.args.self.now c.enter-in-Turns.new.self refl)
+    c.enter-in-Turns.ensures
+
+pub returns-in-Turn-clause-does : goal.returns-in-Turn-clause-does
+returns-in-Turn-clause-does c =
+    let t = c.in-Turn.later in
+    on_ok_weaker c.enter-in-Turn.result (does_frame (Turns t) t.body c.args.self.now c.enter-in-Turn.new.self c.requires.sound tt)
+    c.enter-in-Turn.ensures
+
+pub returns-in-Turn-clause-ends : goal.returns-in-Turn-clause-ends
+returns-in-Turn-clause-ends c =
+    let t = c.in-Turn.later in
+    on_ok_weaker c.enter-in-Turn.result (less_frame (Turns t) t.body c.args.self.now c.enter-in-Turn.new.self refl)
+    c.enter-in-Turn.ensures
+
+pub returns-in-Body-clause-does : goal.returns-in-Body-clause-does
+returns-in-Body-clause-does c =
+    let n = c.in-Body in
+    on_ok_weaker c.enter-in-Body.result
+    (does_frame (EndCall n.caller) n.body c.args.self.now c.enter-in-Body.new.self c.requires.sound c.requires.below)
+    c.enter-in-Body.ensures
+
+pub returns-in-Body-clause-ends : goal.returns-in-Body-clause-ends
+returns-in-Body-clause-ends c =
+    let n = c.in-Body in
+    on_ok_weaker c.enter-in-Body.result (less_frame (EndCall n.caller) n.body c.args.self.now c.enter-in-Body.new.self refl)
+    c.enter-in-Body.ensures
