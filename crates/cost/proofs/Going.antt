@@ -9,18 +9,18 @@ use Rattle.types.specs.TreeSteps.{size_by}
 use Rattle.types.specs.Value.{Valued}
 use Rattle.statement_steps.specs.declared.next.Next.{Next as rNext}
 use Rattle.statement_steps.specs.declared.next.Next.TheVariants.{Nothing as rNothing, Block as rBlock, Iteration as rIteration}
-use Rattle.statement_steps.specs.declared.next.Next.TheVariants.{Turns as rTurns, Turn as rTurn, Body as rBody}
+use Rattle.statement_steps.specs.declared.next.Next.TheVariants.{Turns as rTurns, Body as rBody}
 use Rattle.statement_steps.specs.declared.store.Store.{Store}
 use Rattle.statement_steps.specs.declared.thread.Thread.{Thread}
 use Rattle.statement_steps.specs.declared.turns.TurnsToCome.{TurnsToCome}
 use Rattle.statement_steps.specs.Turns.{pieces}
 use Rattle.statement_steps.specs.Bounds.{IsInBounds, LiesInArrays}
-use Rattle.statement_steps.specs.Leading.{Next, Nothing, Inside, Iteration, Turns, InTurn, Body, Led, Leads, by_value, led, leads_to, next_of}
+use Rattle.statement_steps.specs.Leading.{Next, Nothing, Inside, Iteration, Turns, Body, Led, Leads, by_value, led, leads_to, next_of}
 use Rattle.statement_steps.specs.Lists.{contents_of, lengths_of, lists_of}
 use Rattle.statement_steps.specs.Primitive.{halves}
 use Rattle.statement_steps.specs.Standing.{flow, state_of}
 use Rattle.statement_steps.proofs.Ends.{fits_too}
-use Rattle.statement_steps.proofs.Leading.{HasPiece, IsControl, goes_on, kept, led_acts, led_kept, led_lies, whole}
+use Rattle.statement_steps.proofs.Leading.{IsControl, goes_on, kept, led_acts, led_kept, led_lies, whole}
 use Rattle.cost.specs.Accounts.{Account, accounted, accounted_rules}
 use Rattle.cost.specs.Frames.{cost, costs, rate, turns_left}
 use Rattle.cost.specs.Machines.{Does, Enters, EntersBlock, HasStep, IsSound, IsSoundFrame, LeavesLess, LiesBelow, comes_to, goes, nothing, stack, stands, statement, step_rate}
@@ -42,7 +42,6 @@ module _ (p : Program) (fresh : ℕ) where
   Flows (Inside b) st = st.flow ≡ On
   Flows (Iteration l t b) st = st.flow ≡ On
   Flows (Turns l s n k x i b) st = st.flow ≡ On
-  Flows (InTurn l s n k x i b) st = st.flow ≡ On
   Flows (Body b env) st = st.flow ≡ On
 
   abbrev FlowsOn : Led Account → Type 0
@@ -68,7 +67,6 @@ module _ (p : Program) (fresh : ℕ) where
   led_flows l (While t b) is st on = flows_value l (truth_at st t) _ st (λ v. flows_iteration l t b st v on)
   led_flows l (Split s e x y b) is st on = flows_value l (halves st s e) _ st (λ ws. on)
   led_flows l (Parts s e x i b) is st on = flows_value l (size_by (number_at st e)) _ st (λ n. on)
-  led_flows l (Begun s n k x i b) is st on = on
   led_flows l (Call f es ss) is st on = flows_value l (numbers_at st es) _ st (λ vs. on)
 
   module _ (s : Standing) where
@@ -86,8 +84,6 @@ module _ (p : Program) (fresh : ℕ) where
     going_is (Inside b) st on = ap at (block_is b st on)
     going_is (Iteration l t b) st on = ap (λ out. at (go_on (accounted p fresh s.nest (Turn l t b)) out)) (block_is b st on)
     going_is (Turns l sec n k x i b) st on = ap at (flow_on st.flow st (accounted p fresh s.nest (Pieces l sec n k x i b)) on)
-    going_is (InTurn l sec n k x i b) st on =
-        ap (λ out. at (go_on (accounted p fresh s.nest (Pieces l sec n k x i b)) out)) (block_is b st on)
     going_is (Body b env) st on =
         ap (λ (out : State Account). at (record out { environment = env })) (flow_on st.flow st (accounted p fresh s.nest (Block b)) on)
 
@@ -119,12 +115,12 @@ module _ (p : Program) (fresh : ℕ) where
 
 -- a thread that was led stays in bounds
 pub led_in_bounds : (p : Program) (old new : Thread Store) (l : ℕ) (c : Code) (n : rNext) → IsControl c
-    → HasPiece p c (state_of old) → Leads contents_of lengths_of (led p l c (state_of old)) n old new
+    → Leads contents_of lengths_of (led p l c (state_of old)) n old new
     → IsInBounds p old → IsInBounds p new
-led_in_bounds p old new l c n is has leads bounds = record {
+led_in_bounds p old new l c n is leads bounds = record {
   store = fits_too p.arrays (lists_of old.store) (lists_of new.store) bounds.store leads.memory;
   windows = subst (λ (st : State (Unit {0})). LiesInArrays p st.environment) (sym leads.state)
-      (led_lies p l c is (state_of old) has bounds.windows);
+      (led_lies p l c is (state_of old) bounds.windows);
 }
 
 -- so does the environment that comes back
@@ -134,7 +130,6 @@ module _ (p : Program) where
   LiesNext (Inside b) = Unit {0}
   LiesNext (Iteration l t b) = Unit {0}
   LiesNext (Turns l s n k x i b) = Unit {0}
-  LiesNext (InTurn l s n k x i b) = Unit {0}
   LiesNext (Body b env) = LiesInArrays p env
 
   lies_value : {A : Type 0} (l : ℕ) (v : Valued A) (go : A → Led (Unit {0})) (st : State (Unit {0}))
@@ -156,7 +151,6 @@ module _ (p : Program) where
   led_lies_next l (While t b) is st lies = lies_value l (truth_at st t) _ st (λ v. lies_iteration l t b v)
   led_lies_next l (Split s e x y b) is st lies = lies_value l (halves st s e) _ st (λ ws. tt)
   led_lies_next l (Parts s e x i b) is st lies = lies_value l (size_by (number_at st e)) _ st (λ n. tt)
-  led_lies_next l (Begun s n k x i b) is st lies = tt
   led_lies_next l (Call f es ss) is st lies = lies_value l (numbers_at st es) _ st (λ vs. lies)
 
   below : (n : rNext) → LiesNext (next_of n) → LiesBelow p n
@@ -164,7 +158,6 @@ module _ (p : Program) where
   below (rBlock b) lies = tt
   below (rIteration l t b) lies = tt
   below (rTurns t) lies = tt
-  below (rTurn t) lies = tt
   below (rBody b env) lies = lies
 
   pub led_below : (old new : Thread Store) (l : ℕ) (c : Code) (n : rNext) → IsControl c
@@ -174,11 +167,10 @@ module _ (p : Program) where
 
 -- a machine whose thread was led
 pub led_sound : (m : CostMachine) (t : Thread Store) (l : ℕ) (c : Code) (n : rNext) → IsControl c
-    → HasPiece (program m.plan.program.now) c (state_of m.thread)
     → Leads contents_of lengths_of (led (program m.plan.program.now) l c (state_of m.thread)) n m.thread t
     → IsSound m → IsSound (record m { thread = t })
-led_sound m t l c n is has leads sound = record {
-  thread = led_in_bounds (program m.plan.program.now) m.thread t l c n is has leads sound.thread;
+led_sound m t l c n is leads sound = record {
+  thread = led_in_bounds (program m.plan.program.now) m.thread t l c n is leads sound.thread;
   spawned = omega (arith, sound.spawned, leads.steps, leads.spawned);
   frames = sound.frames;
 }

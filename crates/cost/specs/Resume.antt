@@ -6,7 +6,7 @@ use Rattle.types.specs.Run.{Fault, State, Work, Block, Turn, Pieces, go_on, act,
 use Rattle.types.specs.Translation.{codes, truth, environment, fault}
 use Rattle.statement_steps.specs.declared.store.Store.{Store}
 use Rattle.statement_steps.specs.declared.thread.Thread.{Thread}
-use Rattle.statement_steps.specs.Leading.{Next, Nothing, Inside, Iteration, InTurn, Body}
+use Rattle.statement_steps.specs.Leading.{Next, Nothing, Inside, Iteration, Body}
 use Rattle.statement_steps.specs.Leading.{Turns as TurnsNext}
 use Rattle.statement_steps.specs.Standing.{state_of}
 use Rattle.statement_steps.specs.Turns.{pieces}
@@ -91,7 +91,6 @@ module _ (p : Program) (fresh : ℕ) where
   going (Inside b) s = doing (Block b) s
   going (Iteration l t b) s = doing (Turn l t b) (doing (Block b) s)
   going (TurnsNext l sec n k x i b) s = doing (Pieces l sec n k x i b) s
-  going (InTurn l sec n k x i b) s = doing (Pieces l sec n k x i b) (doing (Block b) s)
   going (Body b env) s =
       let out = doing (Block b) s in record out { state = record out.state { environment = env } }
 

@@ -10,18 +10,18 @@ use Rattle.types.specs.Run.{piece_size, procedure_of, truth_at, window_at, with_
 use Rattle.types.specs.TreeSteps.{size_by}
 use Rattle.types.specs.Value.{Environment, Valued, then_try}
 use Rattle.statement_steps.specs.Bounds.{LiesInArray, LiesInArrays}
-use Rattle.statement_steps.specs.Leading.{Next, Nothing, Inside, Iteration, Turns, InTurn, Body, Led, by_value, faulted, led, leads_to}
+use Rattle.statement_steps.specs.Leading.{Next, Nothing, Inside, Iteration, Turns, Body, Led, by_value, faulted, led, leads_to}
 use Rattle.statement_steps.specs.Primitive.{halves}
 use Rattle.statement_steps.proofs.BoundsLemmas.{entry_lies, halves_lie, with_piece_lies, with_sides_lies}
 
--- a statement that is no async and no finish, nor a statement of one step
+-- a condition, a loop, a `split`, a `parts` before its turns, or a call
 abbrev pub IsControl : Code → Type 0
 IsControl (Do s) = ⊥
 IsControl (If t b c) = Unit {0}
 IsControl (While t b) = Unit {0}
 IsControl (Split s e x y b) = Unit {0}
 IsControl (Parts s e x i b) = Unit {0}
-IsControl (Begun s n k x i b) = Unit {0}
+IsControl (Begun s n k x i b) = ⊥
 IsControl (Call f es ss) = Unit {0}
 IsControl (Async b) = ⊥
 IsControl (Finish b) = ⊥
@@ -45,7 +45,6 @@ module _ {X : Type 0} (y : X) where
   led_kept p l (While t b) is st = kept_value l (truth_at st t) _ _ st (λ v. refl)
   led_kept p l (Split s e x z b) is st = kept_value l (halves st s e) _ _ st (λ ws. refl)
   led_kept p l (Parts s e x i b) is st = kept_value l (size_by (number_at st e)) _ _ st (λ n. refl)
-  led_kept p l (Begun s n k x i b) is st = refl
   led_kept p l (Call f es ss) is st = kept_value l (numbers_at st es) _ _ st (λ vs. refl)
 
 -- ---- what a statement does
@@ -57,7 +56,6 @@ module _ (p : Program) {X : Type 0} (r : Rules X) (deeper : Work → State X →
   goes_on (Inside b) st = block p r deeper b st
   goes_on (Iteration l t b) st = go_on (deeper (Turn l t b)) (block p r deeper b st)
   goes_on (Turns l s n k x i b) st = deeper (Pieces l s n k x i b) st
-  goes_on (InTurn l s n k x i b) st = go_on (deeper (Pieces l s n k x i b)) (block p r deeper b st)
   goes_on (Body b env) st = let out = deeper (Block b) st in record out { environment = env }
 
   -- the statement, and then what it leads to
@@ -93,7 +91,6 @@ module _ (p : Program) {X : Type 0} (r : Rules X) (deeper : Work → State X →
   led_acts l (Split s e x y b) is st =
       acts_twice l (number_at st e) (λ v. ok_or (sides_of (window_at st s) v) SplitPoint) _ _ st (λ ws. refl)
   led_acts l (Parts s e x i b) is st = acts_twice l (number_at st e) (λ v. ok_or (piece_size v) PieceSize) _ _ st (λ n. refl)
-  led_acts l (Begun s n k x i b) is st = refl
   led_acts l (Call f es ss) is st = acts_value l (numbers_at st es) _ _ st (λ vs. refl)
 
 -- ---- where windows lie
@@ -108,19 +105,13 @@ module _ (p : Program) where
   lies_value l (Ok a) go st lies then = then a refl
   lies_value l (Err k) go st lies then = lies
 
-  -- the turn of a `parts` has a piece that lies there
-  abbrev pub HasPiece : Code → State (Unit {0}) → Type 0
-  HasPiece (Begun s n k x i b) st = LiesInArray p (piece_at n k (window_at st s))
-  HasPiece c st = Unit {0}
-
   -- windows lie in the arrays wherever a statement leads
-  pub led_lies : (l : ℕ) (c : Code) → IsControl c → (st : State (Unit {0})) → HasPiece c st → LiesInArrays p st.environment
+  pub led_lies : (l : ℕ) (c : Code) → IsControl c → (st : State (Unit {0})) → LiesInArrays p st.environment
       → LiesInArrays p (led p l c st).state.environment
-  led_lies l (If t b c) is st has lies = lies_value l (truth_at st t) _ st lies (λ v e. lies)
-  led_lies l (While t b) is st has lies = lies_value l (truth_at st t) _ st lies (λ v e. lies)
-  led_lies l (Split s e x y b) is st has lies =
+  led_lies l (If t b c) is st lies = lies_value l (truth_at st t) _ st lies (λ v e. lies)
+  led_lies l (While t b) is st lies = lies_value l (truth_at st t) _ st lies (λ v e. lies)
+  led_lies l (Split s e x y b) is st lies =
       lies_value l (halves st s e) _ st lies (λ ws h. with_sides_lies p x y ws st.environment (halves_lie p st s e ws lies h) lies)
-  led_lies l (Parts s e x i b) is st has lies = lies_value l (size_by (number_at st e)) _ st lies (λ n h. lies)
-  led_lies l (Begun s n k x i b) is st has lies = with_piece_lies p x i (piece_at n k (window_at st s)) k st.environment has lies
-  led_lies l (Call f es ss) is st has lies =
+  led_lies l (Parts s e x i b) is st lies = lies_value l (size_by (number_at st e)) _ st lies (λ n h. lies)
+  led_lies l (Call f es ss) is st lies =
       lies_value l (numbers_at st es) _ st lies (λ vs h. entry_lies p vs st.environment ss lies)

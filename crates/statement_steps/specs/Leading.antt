@@ -6,14 +6,14 @@ use Rattle.types.specs.Code.{Truth, Code, Do, If, While, Split, Parts, Begun, Ca
 use Rattle.types.specs.Code.{Codes, Program}
 use Rattle.types.specs.Contents.{Contents}
 use Rattle.types.specs.Run.{State, fault, primitive, number_at, numbers_at, truth_at, window_at, entry}
-use Rattle.types.specs.Run.{with_sides, in_turn, procedure_of}
+use Rattle.types.specs.Run.{with_sides, procedure_of}
 use Rattle.types.specs.Translation.{codes, environment, truth}
 use Rattle.types.specs.TreeSteps.{size_by}
 use Rattle.types.specs.Value.{Environment, Valued}
 use Rattle.statement_steps.specs.declared.next.Next.{Next as rNext}
 use Rattle.statement_steps.specs.declared.next.Next.TheVariants.{Nothing as rNothing, Block as rBlock}
 use Rattle.statement_steps.specs.declared.next.Next.TheVariants.{Iteration as rIteration, Turns as rTurns}
-use Rattle.statement_steps.specs.declared.next.Next.TheVariants.{Turn as rTurn, Body as rBody}
+use Rattle.statement_steps.specs.declared.next.Next.TheVariants.{Body as rBody}
 use Rattle.statement_steps.specs.declared.thread.Thread.{Thread}
 use Rattle.statement_steps.specs.Primitive.{halves}
 use Rattle.statement_steps.specs.Standing.{state_by}
@@ -27,8 +27,6 @@ pub data Next : Type 0 where
   Iteration : (label : ℕ) → (guard : Truth) → (body : Codes) → Next
   -- the turns of a `parts` from the one with the number `next` on
   Turns : (label section size next piece turn : ℕ) → (body : Codes) → Next
-  -- the block of a turn, and then the turns from the one with the number `next` on
-  InTurn : (label section size next piece turn : ℕ) → (body : Codes) → Next
   -- the body of a procedure, and then the caller's environment again
   Body : (body : Codes) → (caller : Environment) → Next
 
@@ -51,7 +49,7 @@ module _ {X : Type 0} where
   by_value l (Err f) go st = faulted l f st
 
 module _ (p : Program) {X : Type 0} where
-  -- a statement whose step was taken; an async and a finish are left to the rules of a run
+  -- a statement whose step was taken; a turn of a `parts`, an async and a finish are left to the machine
   abbrev pub led : (label : ℕ) → Code → State X → Led X
   led l (Do s) st = leads_to Nothing (primitive p l s st)
   led l (If t b c) st =
@@ -63,7 +61,7 @@ module _ (p : Program) {X : Type 0} where
       leads_to (Inside b) (record st { environment = with_sides x y ws st.environment })) st
   led l (Parts s e x i b) st =
       by_value l (size_by (number_at st e)) (λ n. leads_to (Turns l s n 0 x i b) st) st
-  led l (Begun s n k x i b) st = leads_to (InTurn l s n (k + 1) x i b) (in_turn s n k x i st)
+  led l (Begun s n k x i b) st = leads_to Nothing st
   led l (Call f es ss) st =
       by_value l (numbers_at st es) (λ vs.
       leads_to (Body (procedure_of p f).body st.environment)
@@ -78,7 +76,6 @@ next_of rNothing = Nothing
 next_of (rBlock b) = Inside (codes b.now)
 next_of (rIteration l t b) = Iteration l (truth t.now) (codes b.now)
 next_of (rTurns t) = Turns t.label t.section.number t.size t.next t.piece.number t.turn.number (codes t.body.now)
-next_of (rTurn t) = InTurn t.label t.section.number t.size t.next t.piece.number t.turn.number (codes t.body.now)
 next_of (rBody b env) = Body (codes b.now) (environment env)
 
 -- the step leads a thread there; the task keeps its budget and its children, and its memory keeps what

@@ -1,23 +1,19 @@
 //! The statements that lead to other statements: conditions, loops, `split`, `parts` and calls. Each
 //! takes its step and says what comes next; a machine keeps that as its frames.
 
-ghost use Rattle.std.specs.Prelude.{◌≡◌, ◌<◌, ℕ, IfOk, Some, map};
-ghost use Rattle.sections.specs.Place.{piece_of};
-ghost use Rattle.sections.specs.Translation.{section as section_of, window as window_of};
-ghost use Rattle.types.specs.Code.{Call, If, Parts, Program, Split, While};
+ghost use Rattle.std.specs.Prelude.{◌≡◌, ℕ, IfOk, map};
+ghost use Rattle.sections.specs.Translation.{section as section_of};
+ghost use Rattle.types.specs.Code.{Call, If, Parts, Split, While};
 ghost use Rattle.types.specs.Run.{procedure_of as numbered};
 ghost use Rattle.types.specs.Translation.{codes as codes_of, number as number_of, program as program_of};
-ghost use Rattle.types.specs.Translation.{environment as environment_of, truth as truth_of};
+ghost use Rattle.types.specs.Translation.{truth as truth_of};
 ghost use Rattle.statement_steps.specs.Leading.{faulted, led, Leads};
 ghost use Rattle.statement_steps.specs.Standing.{state_by};
-ghost use Rattle.statement_steps.specs.Turns.{begun};
 
 use crate::memory::Memory;
 use crate::next::Next;
 use crate::thread::{Plan, Thread};
-use crate::turns::TurnsToCome;
 use sections::id::SectionId;
-use sections::window::Window;
 use std::alloc::AllocError;
 use types::code::{Label, Number, Pieces, Procedure, Sides, Stmt, Truth};
 use types::fault::FaultKind;
@@ -138,23 +134,6 @@ impl<S: Memory> Thread<S> {
             Err(kind) => self.fails(plan, label, kind),
             Ok(turns) => Ok(Next::Turns(turns)),
         }
-    }
-
-    /// Names the piece of the next turn of a `parts`. The block comes next, and then the later turns.
-    pub fn enter_turn<'p>(
-        &mut self,
-        turns: TurnsToCome<'p>,
-        piece: Window,
-    ) -> Result<Next<'p>, AllocError>
-        requires few { turns.next < 4194304 }
-        requires piece { piece_of ((environment_of self.old.environment).windows turns.section.number)
-            turns.size turns.next ≡ Some (window_of piece) }
-        ensures { IfOk result (λ n. (p : Program) → Leads S.contents S.shape
-            (led p turns.entry.label (begun turns.entry) (state_by S.contents self.old))
-            n self.old self.new) }
-    {
-        self.begin_turn(turns, piece)?;
-        Ok(Next::Turn(turns.after_next()))
     }
 
     /// Evaluates the arguments of a call from left to right, and enters the procedure's environment,

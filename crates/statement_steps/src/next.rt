@@ -17,10 +17,8 @@ pub enum Next<'p> {
         guard: &'p Truth,
         body: &'p [Stmt],
     },
-    /// These turns of a `parts`.
+    /// The turns of a `parts`.
     Turns(TurnsToCome<'p>),
-    /// The block of a turn of a `parts`, and then these later turns.
-    Turn(TurnsToCome<'p>),
     /// The body of a procedure, and then the caller's environment comes back.
     Body {
         body: &'p [Stmt],

@@ -12,10 +12,10 @@ use Rattle.effects.specs.Needs.{Needs}
 use Rattle.plain_code.specs.Means.{beside}
 use Rattle.statement_steps.specs.declared.next.Next.{Next as rNext}
 use Rattle.statement_steps.specs.declared.next.Next.TheVariants.{Nothing as rNothing, Block as rBlock, Iteration as rIteration}
-use Rattle.statement_steps.specs.declared.next.Next.TheVariants.{Turns as rTurns, Turn as rTurn, Body as rBody}
+use Rattle.statement_steps.specs.declared.next.Next.TheVariants.{Turns as rTurns, Body as rBody}
 use Rattle.statement_steps.specs.declared.thread.Thread.{Thread}
 use Rattle.statement_steps.proofs.Leading.{IsControl}
-use Rattle.statement_steps.specs.Leading.{Next, Nothing, Inside, Iteration, Turns, InTurn, Body, Led, Leads, by_value, faulted, led, leads_to, next_of}
+use Rattle.statement_steps.specs.Leading.{Next, Nothing, Inside, Iteration, Turns, Body, Led, Leads, by_value, faulted, led, leads_to, next_of}
 use Rattle.task_run.specs.Frames.{Frame, Rest, Again, Further, Back, Standing, acted, by_value as valued}
 use Rattle.task_run.specs.Leading.{frames_of}
 use Rattle.task_run.specs.OwnRun.{Own, own_rules}
@@ -35,7 +35,6 @@ put Nothing fs = fs
 put (Inside b) fs = Rest b ∷ fs
 put (Iteration l t b) fs = Rest b ∷ Again l t b ∷ fs
 put (Turns l s n k x i b) fs = Further l s n k x i b ∷ fs
-put (InTurn l s n k x i b) fs = Rest b ∷ Further l s n k x i b ∷ fs
 put (Body b env) fs = Rest b ∷ Back env ∷ fs
 
 -- ---- what the statement leads to
@@ -78,7 +77,6 @@ module _ (x : Own) (fs : List (Frame Own)) where
     acted_led (Split s e y z b) is st =
         twice l (number_at st e) (λ v. ok_or (sides_of (window_at st s) v) SplitPoint) _ _ st (λ ws. refl)
     acted_led (Parts s e y i b) is st = twice l (number_at st e) (λ v. ok_or (piece_size v) PieceSize) _ _ st (λ n. refl)
-    acted_led (Begun s n k y i b) is st = refl
     acted_led (Call f es ss) is st = valued_led l (numbers_at st es) _ _ st (λ vs. refl)
 
 -- ---- the frames in Rust
@@ -93,8 +91,6 @@ stacked_put gs (rBlock b) fs stacked = (gs, rRest b, refl, refl, stacked)
 stacked_put gs (rIteration l t b) fs stacked =
     (gs ++ rAgain l t b ∷ [], rRest b, two_more gs (rAgain l t b) (rRest b), refl, (gs, rAgain l t b, refl, refl, stacked))
 stacked_put gs (rTurns t) fs stacked = (gs, rFurther t, refl, refl, stacked)
-stacked_put gs (rTurn t) fs stacked =
-    (gs ++ rFurther t ∷ [], rRest t.body, two_more gs (rFurther t) (rRest t.body), refl, (gs, rFurther t, refl, refl, stacked))
 stacked_put gs (rBody b env) fs stacked =
     (gs ++ rEndCall env ∷ [], rRest b, two_more gs (rEndCall env) (rRest b), refl, (gs, rEndCall env, refl, refl, stacked))
 

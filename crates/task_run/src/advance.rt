@@ -225,8 +225,7 @@ impl<'p> Run<'p> {
             → DidTurn needs (further turns.entry) self.old d self.new) }
     {
         if self.thread.takes_step() {
-            let next = self.thread.enter_turn(turns, piece)?;
-            self.take(next)?;
+            self.enter_turn(turns, piece)?;
             Ok(Done::Gone)
         } else {
             Ok(Done::Exceeded)

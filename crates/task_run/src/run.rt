@@ -1,9 +1,12 @@
 //! A task between two turns, and the effect of its statements.
 
 ghost use Rattle.std.specs.Prelude.{ℕ, ◌≡◌, ◌+◌, ◌-◌, ◌<◌, ◌++◌, [], ◌∷◌, IfOk, OnOk, Some, map};
+ghost use Rattle.sections.specs.Place.{piece_of};
+ghost use Rattle.sections.specs.Translation.{window as window_of};
 ghost use Rattle.types.specs.Code.{Finish, Rescue};
 ghost use Rattle.types.specs.Translation.{codes as codes_of, environment as environment_of};
 ghost use Rattle.types.specs.Translation.{fault as fault_of};
+ghost use Rattle.statement_steps.specs.Turns.{begun as begun_turns};
 ghost use Rattle.task_run.specs.Frames.{handled};
 ghost use Rattle.task_run.specs.Leading.{frames_of};
 ghost use Rattle.task_run.specs.Reached.{begun};
@@ -17,9 +20,11 @@ use crate::result::Listed;
 use crate::rooms::Rooms;
 use crate::start::Start;
 use holdings::holdings::Holdings;
+use sections::window::Window;
 use statement_steps::flow::Flow;
 use statement_steps::next::Next;
 use statement_steps::thread::{Plan, Thread};
+use statement_steps::turns::TurnsToCome;
 use std::alloc::AllocError;
 use types::child_number::ChildNumber;
 use types::code::Stmt;
@@ -136,10 +141,6 @@ impl<'p> Run<'p> {
                 self.push(TaskFrame::Rest(body))
             }
             Next::Turns(turns) => self.push(TaskFrame::Turns(turns)),
-            Next::Turn(later) => {
-                self.push(TaskFrame::Turns(later))?;
-                self.push(TaskFrame::Rest(later.body))
-            }
             Next::Body { body, caller } => {
                 self.push(TaskFrame::EndCall {
                     environment: caller,
@@ -156,6 +157,24 @@ impl<'p> Run<'p> {
         ensures rest { OnOk result (self.new ≡ record self.old { frames = self.new.frames }) }
     {
         self.frames.push(frame)?;
+        Ok(())
+    }
+
+    /// Enters the block of a turn, whose step has been taken, with its piece. The later turns are
+    /// after it.
+    pub(crate) fn enter_turn(
+        &mut self,
+        turns: TurnsToCome<'p>,
+        piece: Window,
+    ) -> Result<(), AllocError>
+        requires few { turns.next < 4194304 }
+        requires piece { piece_of ((environment_of self.old.thread.environment).windows turns.section.number)
+            turns.size turns.next ≡ Some (window_of piece) }
+        ensures { OnOk result (Acts turns.entry.label (begun_turns turns.entry) self.old self.new) }
+    {
+        self.thread.begin_turn(turns, piece)?;
+        self.frames.push(TaskFrame::Turns(turns.after_next()))?;
+        self.frames.push(TaskFrame::Rest(turns.body))?;
         Ok(())
     }
 

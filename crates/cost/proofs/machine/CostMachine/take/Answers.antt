@@ -39,18 +39,6 @@ returns-in-Turns-clause-ends c =
     (less_frame (Turns c.in-Turns.turns) _ c.args.self.now c.enter-in-Turns.new.self refl)
     c.enter-in-Turns.ensures
 
-pub returns-in-Turn-clause-does : goal.returns-in-Turn-clause-does
-returns-in-Turn-clause-does c =
-    let t = c.in-Turn.later in
-    on_ok_weaker c.enter-in-Turn.result (does_frame (Turns t) t.body c.args.self.now c.enter-in-Turn.new.self c.requires.sound tt)
-    c.enter-in-Turn.ensures
-
-pub returns-in-Turn-clause-ends : goal.returns-in-Turn-clause-ends
-returns-in-Turn-clause-ends c =
-    let t = c.in-Turn.later in
-    on_ok_weaker c.enter-in-Turn.result (less_frame (Turns t) t.body c.args.self.now c.enter-in-Turn.new.self refl)
-    c.enter-in-Turn.ensures
-
 pub returns-in-Body-clause-does : goal.returns-in-Body-clause-does
 returns-in-Body-clause-does c =
     let n = c.in-Body in

@@ -3,7 +3,7 @@ use Rattle.std.specs.Bool.{OnFalse, OnTrue}
 use Rattle.sections.specs.Place.{piece_of}
 use Rattle.sections.specs.Translation.{window}
 use Rattle.types.specs.Run.{window_at}
-use Rattle.types.specs.Translation.{codes, environment, program}
+use Rattle.types.specs.Translation.{codes, environment}
 use Rattle.statement_steps.specs.Standing.{MissesStep, TakesStep}
 use Rattle.statement_steps.specs.Turns.{begun}
 use Rattle.statement_steps.specs.declared.thread.Thread.{Thread}
@@ -14,7 +14,6 @@ use Rattle.task_run.specs.declared.memory.TaskMemory.{TaskMemory}
 use Rattle.task_run.specs.declared.turn.Done.TheVariants.{Gone}
 use Rattle.task_run.proofs.RunSteps.{did_Begun, stepped}
 use Rattle.task_run.proofs.TakenTurns.{did_turn, missed, some_piece}
-use Rattle.task_run.proofs.Leading.{acts_taken}
 use Rattle.task_run.proofs.run.Run.take_turn.Goals as goal
 
 pub enter_turn-requires-clause-piece : goal.enter_turn-requires-clause-piece
@@ -25,20 +24,18 @@ enter_turn-requires-clause-piece c =
     subst (λ (v : Thread TaskMemory). piece_of ((environment v.environment).windows t.section.number) t.size t.next ≡ Some (window c.args.piece))
     (sym step.same) c.requires.piece
 
-pub returns-in_ok-take : goal.returns-in_ok-take
-returns-in_ok-take c =
+pub returns-in_ok-enter_turn : goal.returns-in_ok-enter_turn
+returns-in_ok-enter_turn c =
     let m = c.args.self.now in let t = c.args.turns in let u = c.takes_step.new.self in
     let step : TakesStep m.thread u
     = subst (λ b. OnTrue b (TakesStep m.thread u)) c.if-takes_step.true c.takes_step.ensures.taken in
     let left = some_piece (window_at (state_of m.thread) t.section.number) (window c.args.piece) t.size t.next c.requires.piece in
-    let acts = subst (λ (v : Thread TaskMemory). Acts t.label (begun t) (record m { thread = v }) c.take.new.self)
-    step.same
-    (acts_taken (record m { thread = u }) c.enter_turn-next.new.self c.take.new.self t.label (begun t) c.in_ok-next.next tt
-    (c.in_ok-next.ensures (program m.plan.program.now)) c.in_ok-take.ensures.frames c.in_ok-take.ensures.rest) in
+    let acts = subst (λ (v : Thread TaskMemory). Acts t.label (begun t) (record m { thread = v }) c.enter_turn.new.self)
+    step.same c.in_ok-enter_turn.ensures in
     λ needs.
-    did_turn needs t m Gone c.take.new.self left
-    (stepped needs m u.steps step.on step.less t.label (begun t) Gone c.take.new.self (λ fs. fs)
-    (did_Begun needs t.label (record m { thread = record m.thread { steps = u.steps } }) c.take.new.self
+    did_turn needs t m Gone c.enter_turn.new.self left
+    (stepped needs m u.steps step.on step.less t.label (begun t) Gone c.enter_turn.new.self (λ fs. fs)
+    (did_Begun needs t.label (record m { thread = record m.thread { steps = u.steps } }) c.enter_turn.new.self
     t.section.number t.size t.next t.piece.number t.turn.number (codes t.body.now) acts))
 
 pub returns-else-takes_step : goal.returns-else-takes_step
