@@ -49,8 +49,8 @@ module _ (p : Program) (fresh : ℕ) where
 
   flows_value : {A : Type 0} (l : ℕ) (v : Valued A) (go : A → Led Account) (st : State Account)
       → ((a : A) → FlowsOn (go a)) → FlowsOn (by_value l v go st)
-  flows_value l (Ok a) go st then = then a
-  flows_value l (Err k) go st then = tt
+  flows_value l (Ok a) go st there = there a
+  flows_value l (Err k) go st there = tt
 
   flows_choice : (b c : Codes) (st : State Account) (v : Bool) → st.flow ≡ On
       → FlowsOn (leads_to (if v then Inside b else Inside c) st)
@@ -62,12 +62,17 @@ module _ (p : Program) (fresh : ℕ) where
   flows_iteration l t b st true on = on
   flows_iteration l t b st false on = tt
 
-  led_flows : (l : ℕ) (c : Code) → IsControl c → (st : State Account) → st.flow ≡ On → FlowsOn (led p l c st)
-  led_flows l (If t b c) is st on = flows_value l (truth_at st t) _ st (λ v. flows_choice b c st v on)
-  led_flows l (While t b) is st on = flows_value l (truth_at st t) _ st (λ v. flows_iteration l t b st v on)
-  led_flows l (Split s e x y b) is st on = flows_value l (halves st s e) _ st (λ ws. on)
-  led_flows l (Parts s e x i b) is st on = flows_value l (size_by (number_at st e)) _ st (λ n. on)
-  led_flows l (Call f es ss) is st on = flows_value l (numbers_at st es) _ st (λ vs. on)
+  led_flows : (l : ℕ) (c : Code) (st : State Account) → st.flow ≡ On → FlowsOn (led p l c st)
+  led_flows l (Do s) st on = tt
+  led_flows l (If t b c) st on = flows_value l (truth_at st t) _ st (λ v. flows_choice b c st v on)
+  led_flows l (While t b) st on = flows_value l (truth_at st t) _ st (λ v. flows_iteration l t b st v on)
+  led_flows l (Split s e x y b) st on = flows_value l (halves st s e) _ st (λ ws. on)
+  led_flows l (Parts s e x i b) st on = flows_value l (size_by (number_at st e)) _ st (λ n. on)
+  led_flows l (Call f es ss) st on = flows_value l (numbers_at st es) _ st (λ vs. on)
+  led_flows l (Begun s n k x i b) st on = tt
+  led_flows l (Async b) st on = tt
+  led_flows l (Finish b) st on = tt
+  led_flows l (Rescue b x c) st on = tt
 
   module _ (s : Standing) where
     abbrev at : State Account → Standing
@@ -91,7 +96,7 @@ module _ (p : Program) (fresh : ℕ) where
     pub going_led : (l : ℕ) (c : Code) → IsControl c → s.state.flow ≡ On
         → (let a = led p l c s.state in going p fresh a.next (at a.state)) ≡ acted p fresh l c s
     going_led l c is on =
-        going_is (led p l c s.state).next (led p l c s.state).state (led_flows l c is s.state on)
+        going_is (led p l c s.state).next (led p l c s.state).state (led_flows l c s.state on)
         ∙ ap at (led_acts p (accounted_rules p fresh s.nest) (accounted p fresh s.nest) l c is s.state)
 
   -- where a thread was led
@@ -108,19 +113,19 @@ module _ (p : Program) (fresh : ℕ) where
       (ap (λ m. from m (state_of new) new.nest) leads.next
       ∙ ap (λ st. from a.next st new.nest) leads.state
       ∙ ap (λ k. from a.next a.state k) leads.nest
-      ∙ ap by_led (sym (led_kept x p l c is (state_of old)))
+      ∙ ap by_led (sym (led_kept x p l c (state_of old)))
       ∙ going_led (standing y old) l c is on)
 
 -- ---- soundness
 
 -- a thread that was led stays in bounds
-pub led_in_bounds : (p : Program) (old new : Thread Store) (l : ℕ) (c : Code) (n : rNext) → IsControl c
+pub led_in_bounds : (p : Program) (old new : Thread Store) (l : ℕ) (c : Code) (n : rNext)
     → Leads contents_of lengths_of (led p l c (state_of old)) n old new
     → IsInBounds p old → IsInBounds p new
-led_in_bounds p old new l c n is leads bounds = record {
+led_in_bounds p old new l c n leads bounds = record {
   store = fits_too p.arrays (lists_of old.store) (lists_of new.store) bounds.store leads.memory;
   windows = subst (λ (st : State (Unit {0})). LiesInArrays p st.environment) (sym leads.state)
-      (led_lies p l c is (state_of old) bounds.windows);
+      (led_lies p l c (state_of old) bounds.windows);
 }
 
 -- so does the environment that comes back
@@ -134,8 +139,8 @@ module _ (p : Program) where
 
   lies_value : {A : Type 0} (l : ℕ) (v : Valued A) (go : A → Led (Unit {0})) (st : State (Unit {0}))
       → ((a : A) → LiesNext (go a).next) → LiesNext (by_value l v go st).next
-  lies_value l (Ok a) go st then = then a
-  lies_value l (Err k) go st then = tt
+  lies_value l (Ok a) go st there = there a
+  lies_value l (Err k) go st there = tt
 
   lies_choice : (b c : Codes) (v : Bool) → LiesNext (if v then Inside b else Inside c)
   lies_choice b c true = tt
@@ -145,13 +150,18 @@ module _ (p : Program) where
   lies_iteration l t b true = tt
   lies_iteration l t b false = tt
 
-  led_lies_next : (l : ℕ) (c : Code) → IsControl c → (st : State (Unit {0})) → LiesInArrays p st.environment
+  led_lies_next : (l : ℕ) (c : Code) (st : State (Unit {0})) → LiesInArrays p st.environment
       → LiesNext (led p l c st).next
-  led_lies_next l (If t b c) is st lies = lies_value l (truth_at st t) _ st (λ v. lies_choice b c v)
-  led_lies_next l (While t b) is st lies = lies_value l (truth_at st t) _ st (λ v. lies_iteration l t b v)
-  led_lies_next l (Split s e x y b) is st lies = lies_value l (halves st s e) _ st (λ ws. tt)
-  led_lies_next l (Parts s e x i b) is st lies = lies_value l (size_by (number_at st e)) _ st (λ n. tt)
-  led_lies_next l (Call f es ss) is st lies = lies_value l (numbers_at st es) _ st (λ vs. lies)
+  led_lies_next l (Do s) st lies = tt
+  led_lies_next l (If t b c) st lies = lies_value l (truth_at st t) _ st (λ v. lies_choice b c v)
+  led_lies_next l (While t b) st lies = lies_value l (truth_at st t) _ st (λ v. lies_iteration l t b v)
+  led_lies_next l (Split s e x y b) st lies = lies_value l (halves st s e) _ st (λ ws. tt)
+  led_lies_next l (Parts s e x i b) st lies = lies_value l (size_by (number_at st e)) _ st (λ n. tt)
+  led_lies_next l (Call f es ss) st lies = lies_value l (numbers_at st es) _ st (λ vs. lies)
+  led_lies_next l (Begun s n k x i b) st lies = tt
+  led_lies_next l (Async b) st lies = tt
+  led_lies_next l (Finish b) st lies = tt
+  led_lies_next l (Rescue b x c) st lies = tt
 
   below : (n : rNext) → LiesNext (next_of n) → LiesBelow p n
   below rNothing lies = tt
@@ -160,17 +170,17 @@ module _ (p : Program) where
   below (rTurns t) lies = tt
   below (rBody b env) lies = lies
 
-  pub led_below : (old new : Thread Store) (l : ℕ) (c : Code) (n : rNext) → IsControl c
+  pub led_below : (old new : Thread Store) (l : ℕ) (c : Code) (n : rNext)
       → Leads contents_of lengths_of (led p l c (state_of old)) n old new → IsInBounds p old → LiesBelow p n
-  led_below old new l c n is leads bounds =
-      below n (subst LiesNext (sym leads.next) (led_lies_next l c is (state_of old) bounds.windows))
+  led_below old new l c n leads bounds =
+      below n (subst LiesNext (sym leads.next) (led_lies_next l c (state_of old) bounds.windows))
 
 -- a machine whose thread was led
-pub led_sound : (m : CostMachine) (t : Thread Store) (l : ℕ) (c : Code) (n : rNext) → IsControl c
+pub led_sound : (m : CostMachine) (t : Thread Store) (l : ℕ) (c : Code) (n : rNext)
     → Leads contents_of lengths_of (led (program m.plan.program.now) l c (state_of m.thread)) n m.thread t
     → IsSound m → IsSound (record m { thread = t })
-led_sound m t l c n is leads sound = record {
-  thread = led_in_bounds (program m.plan.program.now) m.thread t l c n is leads sound.thread;
+led_sound m t l c n leads sound = record {
+  thread = led_in_bounds (program m.plan.program.now) m.thread t l c n leads sound.thread;
   spawned = omega (arith, sound.spawned, leads.steps, leads.spawned);
   frames = sound.frames;
 }

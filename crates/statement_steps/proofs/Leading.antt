@@ -39,13 +39,17 @@ module _ {X : Type 0} (y : X) where
   kept_value l (Err k) go to st same = refl
 
   -- has no influence on where a statement leads
-  pub led_kept : (p : Program) (l : ℕ) (c : Code) → IsControl c → (st : State (Unit {0}))
-      → led p l c (keeping y st) ≡ kept (led p l c st)
-  led_kept p l (If t b c) is st = kept_value l (truth_at st t) _ _ st (λ v. refl)
-  led_kept p l (While t b) is st = kept_value l (truth_at st t) _ _ st (λ v. refl)
-  led_kept p l (Split s e x z b) is st = kept_value l (halves st s e) _ _ st (λ ws. refl)
-  led_kept p l (Parts s e x i b) is st = kept_value l (size_by (number_at st e)) _ _ st (λ n. refl)
-  led_kept p l (Call f es ss) is st = kept_value l (numbers_at st es) _ _ st (λ vs. refl)
+  pub led_kept : (p : Program) (l : ℕ) (c : Code) (st : State (Unit {0})) → led p l c (keeping y st) ≡ kept (led p l c st)
+  led_kept p l (Do s) st = refl
+  led_kept p l (If t b c) st = kept_value l (truth_at st t) _ _ st (λ v. refl)
+  led_kept p l (While t b) st = kept_value l (truth_at st t) _ _ st (λ v. refl)
+  led_kept p l (Split s e x z b) st = kept_value l (halves st s e) _ _ st (λ ws. refl)
+  led_kept p l (Parts s e x i b) st = kept_value l (size_by (number_at st e)) _ _ st (λ n. refl)
+  led_kept p l (Call f es ss) st = kept_value l (numbers_at st es) _ _ st (λ vs. refl)
+  led_kept p l (Begun s n k x i b) st = refl
+  led_kept p l (Async b) st = refl
+  led_kept p l (Finish b) st = refl
+  led_kept p l (Rescue b x c) st = refl
 
 -- ---- what a statement does
 
@@ -86,12 +90,17 @@ module _ (p : Program) {X : Type 0} (r : Rules X) (deeper : Work → State X →
 
   -- leads to what the statement means
   pub led_acts : (l : ℕ) (c : Code) → IsControl c → (st : State X) → whole (led p l c st) ≡ act p r deeper l c st
+  led_acts l (Do s) is st = elim is [ ]
   led_acts l (If t b c) is st = acts_value l (truth_at st t) _ _ st (choice b c st)
   led_acts l (While t b) is st = acts_value l (truth_at st t) _ _ st (iteration l t b st)
   led_acts l (Split s e x y b) is st =
       acts_twice l (number_at st e) (λ v. ok_or (sides_of (window_at st s) v) SplitPoint) _ _ st (λ ws. refl)
   led_acts l (Parts s e x i b) is st = acts_twice l (number_at st e) (λ v. ok_or (piece_size v) PieceSize) _ _ st (λ n. refl)
   led_acts l (Call f es ss) is st = acts_value l (numbers_at st es) _ _ st (λ vs. refl)
+  led_acts l (Begun s n k x i b) is st = elim is [ ]
+  led_acts l (Async b) is st = elim is [ ]
+  led_acts l (Finish b) is st = elim is [ ]
+  led_acts l (Rescue b x c) is st = elim is [ ]
 
 -- ---- where windows lie
 
@@ -102,16 +111,21 @@ module _ (p : Program) where
 
   lies_value : {A : Type 0} (l : ℕ) (v : Valued A) (go : A → Led (Unit {0})) (st : State (Unit {0})) → LiesInArrays p st.environment
       → ((a : A) → Ok a ≡ v → Lies (go a)) → Lies (by_value l v go st)
-  lies_value l (Ok a) go st lies then = then a refl
-  lies_value l (Err k) go st lies then = lies
+  lies_value l (Ok a) go st lies there = there a refl
+  lies_value l (Err k) go st lies there = lies
 
   -- windows lie in the arrays wherever a statement leads
-  pub led_lies : (l : ℕ) (c : Code) → IsControl c → (st : State (Unit {0})) → LiesInArrays p st.environment
+  pub led_lies : (l : ℕ) (c : Code) (st : State (Unit {0})) → LiesInArrays p st.environment
       → LiesInArrays p (led p l c st).state.environment
-  led_lies l (If t b c) is st lies = lies_value l (truth_at st t) _ st lies (λ v e. lies)
-  led_lies l (While t b) is st lies = lies_value l (truth_at st t) _ st lies (λ v e. lies)
-  led_lies l (Split s e x y b) is st lies =
+  led_lies l (Do s) st lies = lies
+  led_lies l (If t b c) st lies = lies_value l (truth_at st t) _ st lies (λ v e. lies)
+  led_lies l (While t b) st lies = lies_value l (truth_at st t) _ st lies (λ v e. lies)
+  led_lies l (Split s e x y b) st lies =
       lies_value l (halves st s e) _ st lies (λ ws h. with_sides_lies p x y ws st.environment (halves_lie p st s e ws lies h) lies)
-  led_lies l (Parts s e x i b) is st lies = lies_value l (size_by (number_at st e)) _ st lies (λ n h. lies)
-  led_lies l (Call f es ss) is st lies =
+  led_lies l (Parts s e x i b) st lies = lies_value l (size_by (number_at st e)) _ st lies (λ n h. lies)
+  led_lies l (Call f es ss) st lies =
       lies_value l (numbers_at st es) _ st lies (λ vs h. entry_lies p vs st.environment ss lies)
+  led_lies l (Begun s n k x i b) st lies = lies
+  led_lies l (Async b) st lies = lies
+  led_lies l (Finish b) st lies = lies
+  led_lies l (Rescue b x c) st lies = lies

@@ -5,7 +5,7 @@ use Rattle.types.specs.declared.fault.FaultKind.{FaultKind}
 use Rattle.types.specs.Code.{Truth, Code, Do, If, While, Split, Parts, Begun, Call, Async, Finish, Rescue}
 use Rattle.types.specs.Code.{Codes, Program}
 use Rattle.types.specs.Contents.{Contents}
-use Rattle.types.specs.Run.{State, fault, primitive, number_at, numbers_at, truth_at, window_at, entry}
+use Rattle.types.specs.Run.{State, fault, number_at, numbers_at, truth_at, window_at, entry}
 use Rattle.types.specs.Run.{with_sides, procedure_of}
 use Rattle.types.specs.Translation.{codes, environment, truth}
 use Rattle.types.specs.TreeSteps.{size_by}
@@ -49,9 +49,10 @@ module _ {X : Type 0} where
   by_value l (Err f) go st = faulted l f st
 
 module _ (p : Program) {X : Type 0} where
-  -- a statement whose step was taken; a turn of a `parts`, an async and a finish are left to the machine
+  -- a condition, a loop, a `split`, a `parts` before its turns, or a call, whose step was taken; any other
+  -- statement leads to nothing else
   abbrev pub led : (label : ℕ) → Code → State X → Led X
-  led l (Do s) st = leads_to Nothing (primitive p l s st)
+  led l (Do s) st = leads_to Nothing st
   led l (If t b c) st =
       by_value l (truth_at st t) (λ v. leads_to (if v then Inside b else Inside c) st) st
   led l (While t b) st =

@@ -50,11 +50,16 @@ module _ (p : Program) (l : ℕ) (k : Leaf) (a : Contents) where
   iteration t b false = refl
 
   pub tree_led : (c : Code) → IsControl c → tree_after p l c k a ≡ tree_of (led p l c (as_state k a))
+  tree_led (Do s) is = elim is [ ]
   tree_led (If t b c) is = tree_value (truth_at (as_state k a) t) _ _ (choice b c)
   tree_led (While t b) is = tree_value (truth_at (as_state k a) t) _ _ (iteration t b)
   tree_led (Split s e x y b) is = tree_value (halves (as_state k a) s e) _ _ (λ ws. refl)
   tree_led (Parts s e x i b) is = tree_value (size_by (number_at (as_state k a) e)) _ _ (λ n. refl)
   tree_led (Call f es ss) is = tree_value (numbers_at (as_state k a) es) _ _ (λ vs. refl)
+  tree_led (Begun s n m x i b) is = elim is [ ]
+  tree_led (Async b) is = elim is [ ]
+  tree_led (Finish b) is = elim is [ ]
+  tree_led (Rescue b x c) is = elim is [ ]
 
   store_value : {A : Type 0} (v : Valued A) (go : A → Led (Unit {0})) → ((x : A) → a ≡ (go x).state.store)
       → a ≡ (by_value l v go (as_state k a)).state.store
@@ -66,19 +71,24 @@ module _ (p : Program) (l : ℕ) (k : Leaf) (a : Contents) where
 
   -- and what the store becomes
   pub store_led : (c : Code) → IsControl c → store_after p l c k a ≡ (led p l c (as_state k a)).state.store
+  store_led (Do s) is = elim is [ ]
   store_led (If t b c) is = store_value (truth_at (as_state k a) t) _ (λ v. refl)
   store_led (While t b) is = store_value (truth_at (as_state k a) t) _ (λ v. refl)
   store_led (Split s e x y b) is = store_value (halves (as_state k a) s e) _ (λ ws. refl)
   store_led (Parts s e x i b) is = store_value (size_by (number_at (as_state k a) e)) _ (λ n. refl)
   store_led (Call f es ss) is = store_value (numbers_at (as_state k a) es) _ (λ vs. refl)
+  store_led (Begun s n m x i b) is = elim is [ ]
+  store_led (Async b) is = elim is [ ]
+  store_led (Finish b) is = elim is [ ]
+  store_led (Rescue b x c) is = elim is [ ]
 
 -- ---- loops
 
 module _ (p : Program) (l : ℕ) where
   loop_value : {A : Type 0} (c : Code) (v : Valued A) (go : A → Led (Unit {0})) (st : State (Unit {0}))
       → ((x : A) → IsLoopOf l c (go x).next) → IsLoopOf l c (by_value l v go st).next
-  loop_value c (Ok x) go st then = then x
-  loop_value c (Err f) go st then = tt
+  loop_value c (Ok x) go st there = there x
+  loop_value c (Err f) go st there = tt
 
   loop_choice : (c : Code) (b d : Codes) (v : Bool) → IsLoopOf l c (if v then Inside b else Inside d)
   loop_choice c b d true = tt
@@ -89,18 +99,23 @@ module _ (p : Program) (l : ℕ) where
   loop_iteration t b false = tt
 
   -- only a loop leads to its iteration
-  led_loops : (c : Code) → IsControl c → (st : State (Unit {0})) → IsLoopOf l c (led p l c st).next
-  led_loops (If t b d) is st = loop_value (If t b d) (truth_at st t) _ st (loop_choice (If t b d) b d)
-  led_loops (While t b) is st = loop_value (While t b) (truth_at st t) _ st (loop_iteration t b)
-  led_loops (Split s e x y b) is st = loop_value (Split s e x y b) (halves st s e) _ st (λ ws. tt)
-  led_loops (Parts s e x i b) is st = loop_value (Parts s e x i b) (size_by (number_at st e)) _ st (λ n. tt)
-  led_loops (Call f es ss) is st = loop_value (Call f es ss) (numbers_at st es) _ st (λ vs. tt)
+  led_loops : (c : Code) (st : State (Unit {0})) → IsLoopOf l c (led p l c st).next
+  led_loops (Do s) st = tt
+  led_loops (If t b d) st = loop_value (If t b d) (truth_at st t) _ st (loop_choice (If t b d) b d)
+  led_loops (While t b) st = loop_value (While t b) (truth_at st t) _ st (loop_iteration t b)
+  led_loops (Split s e x y b) st = loop_value (Split s e x y b) (halves st s e) _ st (λ ws. tt)
+  led_loops (Parts s e x i b) st = loop_value (Parts s e x i b) (size_by (number_at st e)) _ st (λ n. tt)
+  led_loops (Call f es ss) st = loop_value (Call f es ss) (numbers_at st es) _ st (λ vs. tt)
+  led_loops (Begun s n k x i b) st = tt
+  led_loops (Async b) st = tt
+  led_loops (Finish b) st = tt
+  led_loops (Rescue b x d) st = tt
 
-pub led_loop : (turn : LeafTurn) (t : Thread Store) (l : ℕ) (c : Code) (n : rNext) → IsControl c
+pub led_loop : (turn : LeafTurn) (t : Thread Store) (l : ℕ) (c : Code) (n : rNext)
     → Leads contents_of lengths_of (led (program turn.plan.program.now) l c (state_of turn.thread)) n turn.thread t
     → IsLoopOf l c (next_of n)
-led_loop turn t l c n is leads =
-    subst (IsLoopOf l c) (sym leads.next) (led_loops (program turn.plan.program.now) l c is (state_of turn.thread))
+led_loop turn t l c n leads =
+    subst (IsLoopOf l c) (sym leads.next) (led_loops (program turn.plan.program.now) l c (state_of turn.thread))
 
 -- ---- a turn
 

@@ -72,12 +72,17 @@ module _ (x : Own) (fs : List (Frame Own)) where
     iteration t b st false = refl
 
     pub acted_led : (c : Code) → IsControl c → (st : State (Unit {0})) → acted p r l c fs (with_own x st) ≡ there (led p l c st)
+    acted_led (Do s) is st = elim is [ ]
     acted_led (If t b c) is st = valued_led l (truth_at st t) _ _ st (choice b c st)
     acted_led (While t b) is st = valued_led l (truth_at st t) _ _ st (iteration t b st)
     acted_led (Split s e y z b) is st =
         twice l (number_at st e) (λ v. ok_or (sides_of (window_at st s) v) SplitPoint) _ _ st (λ ws. refl)
     acted_led (Parts s e y i b) is st = twice l (number_at st e) (λ v. ok_or (piece_size v) PieceSize) _ _ st (λ n. refl)
     acted_led (Call f es ss) is st = valued_led l (numbers_at st es) _ _ st (λ vs. refl)
+    acted_led (Begun s n k y i b) is st = elim is [ ]
+    acted_led (Async b) is st = elim is [ ]
+    acted_led (Finish b) is st = elim is [ ]
+    acted_led (Rescue b y c) is st = elim is [ ]
 
 -- ---- the frames in Rust
 

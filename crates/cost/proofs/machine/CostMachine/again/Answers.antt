@@ -33,7 +33,7 @@ take-requires-clause-sound c =
     let m = c.args.self.now in let t = c.takes_step.new.self in
     let step = taken c.takes_step.result m.thread t c.if-takes_step.true c.takes_step.ensures.taken in
     led_sound (begun m t c.step.new.self) c.turn_loop-next.new.self c.args.label
-    (While (truth c.args.guard.now) (codes c.args.body.now)) c.in_ok-next.next tt c.in_ok-next.ensures
+    (While (truth c.args.guard.now) (codes c.args.body.now)) c.in_ok-next.next c.in_ok-next.ensures
     (has_step m t c.step.new.self step c.requires).sound
 
 pub take-requires-clause-below : goal.take-requires-clause-below
@@ -41,7 +41,7 @@ take-requires-clause-below c =
     let m = c.args.self.now in let t = c.takes_step.new.self in
     let step = taken c.takes_step.result m.thread t c.if-takes_step.true c.takes_step.ensures.taken in
     led_below (program m.plan.program.now) t c.turn_loop-next.new.self c.args.label
-    (While (truth c.args.guard.now) (codes c.args.body.now)) c.in_ok-next.next tt c.in_ok-next.ensures
+    (While (truth c.args.guard.now) (codes c.args.body.now)) c.in_ok-next.next c.in_ok-next.ensures
     (has_step m t c.step.new.self step c.requires).sound.thread
 
 pub returns-in_ok-next-clause-does : goal.returns-in_ok-next-clause-does
