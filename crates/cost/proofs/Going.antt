@@ -205,6 +205,10 @@ does_block b old new sound e =
           ∙ resume-push p fresh (stack old) (Rest b) (stands old);
     }
 
+-- the same next step, under another name
+pub taken_as : (old new : CostMachine) (n m : rNext) → n ≡ m → Does (goes m) old new → Does (goes n) old new
+taken_as old new n m is does = subst (λ k. Does (goes k) old new) (sym is) does
+
 -- no more than four transitions more are left
 pub less_block : (b : Bor (List Stmt)) (old new : CostMachine) → EntersBlock b old new → LeavesLess 4 old new
 less_block b old new e =

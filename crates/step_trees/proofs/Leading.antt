@@ -30,9 +30,6 @@ module _ (p : Program) (l : ℕ) (k : Leaf) (a : Contents) where
   abbrev pub tree_of : Led (Unit {0}) → Tree
   tree_of x = becomes_by x.next x.state.flow (leaf_at x.state k.rest k.callers)
 
-  st : State (Unit {0})
-  st = as_state k a
-
   tree_value : {A : Type 0} (v : Valued A) (go : A → Led (Unit {0})) (to : A → Tree)
       → ((x : A) → to x ≡ tree_of (go x)) → on_value l k v to ≡ tree_of (by_value l v go (as_state k a))
   tree_value (Ok x) go to same = same x

@@ -178,7 +178,11 @@ fn take<'p>(
             Flow::Faulted | Flow::Stopped => Ok(ended(turn)),
         },
         Next::Block(block) => enters(turn, block),
-        Next::Iteration { body, .. } => {
+        Next::Iteration {
+            label: _,
+            guard: _,
+            body,
+        } => {
             begin(&mut turn.rest, stmt)?;
             enters(turn, body)
         }

@@ -32,7 +32,7 @@ pub take-requires-clause-sound : goal.take-requires-clause-sound
 take-requires-clause-sound c =
     let m = c.args.self.now in let t = c.takes_step.new.self in
     let step = taken c.takes_step.result m.thread t c.if-takes_step.true c.takes_step.ensures.taken in
-    led_sound (begun m t c.step.new.self) c.turn_loop-next.new.self c.args.label
+    led_sound (begun m t c.step.new.self) c.turn_loop.new.self c.args.label
     (While (truth c.args.guard.now) (codes c.args.body.now)) c.in_ok-next.next c.in_ok-next.ensures
     (has_step m t c.step.new.self step c.requires).sound
 
@@ -40,7 +40,7 @@ pub take-requires-clause-below : goal.take-requires-clause-below
 take-requires-clause-below c =
     let m = c.args.self.now in let t = c.takes_step.new.self in
     let step = taken c.takes_step.result m.thread t c.if-takes_step.true c.takes_step.ensures.taken in
-    led_below (program m.plan.program.now) t c.turn_loop-next.new.self c.args.label
+    led_below (program m.plan.program.now) t c.turn_loop.new.self c.args.label
     (While (truth c.args.guard.now) (codes c.args.body.now)) c.in_ok-next.next c.in_ok-next.ensures
     (has_step m t c.step.new.self step c.requires).sound.thread
 
@@ -56,7 +56,7 @@ returns-in_ok-next-clause-does c =
     (ap (at (account y)) step.same
     ∙ ap (λ y. at y (record m.thread { steps = t.steps })) c.in_ok-step.ensures
     ∙ again_on_top p fresh (stack m) c.args.label guard body t.steps (standing m.account m.thread) (ap flow step.on) step.less)
-    (does_led (begun m t y) c.turn_loop-next.new.self c.take.new.self c.args.label (While guard body) c.in_ok-next.next tt
+    (does_led (begun m t y) c.turn_loop.new.self c.take.new.self c.args.label (While guard body) c.in_ok-next.next tt
     (has_step m t y step c.requires) c.in_ok-next.ensures does))
     c.take.ensures.does
 
@@ -68,7 +68,7 @@ returns-in_ok-next-clause-ends c =
     on_ok_weaker c.take.result
     (λ less. omega (
       arith,
-      less_led (begun m t y) c.turn_loop-next.new.self c.take.new.self c.args.label
+      less_led (begun m t y) c.turn_loop.new.self c.take.new.self c.args.label
           (While (truth c.args.guard.now) (codes c.args.body.now)) c.in_ok-next.next c.in_ok-next.ensures less,
       five-rate fresh t.nest,
       turns-step fresh m.thread t step.less (ap (λ (t : Thread Store). t.nest) step.same),

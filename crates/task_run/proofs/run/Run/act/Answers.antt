@@ -39,7 +39,7 @@ returns-in_ok-take-in-If-clause-did g c =
     ∙ sym (ap code c.in-If.is ∙ code_If c.in-If.guard c.in-If.body c.in-If.other) in
     did_same needs x.label (If guard body other) (code x.kind) m Gone _ is
     (did_If needs x.label m _ guard body other
-    (acts_taken m c.choose-next.new.self c.take-in-If.new.self x.label (If guard body other) c.in_ok-next-in-If.next tt c.in_ok-next-in-If.ensures
+    (acts_taken m c.choose.new.self c.take-in-If.new.self x.label (If guard body other) c.in_ok-next-in-If.next tt c.in_ok-next-in-If.ensures
     c.in_ok-take-in-If.ensures.frames c.in_ok-take-in-If.ensures.rest))
 
 pub returns-in_ok-take-in-While-clause-did : goal.returns-in_ok-take-in-While-clause-did
@@ -52,7 +52,7 @@ returns-in_ok-take-in-While-clause-did g c =
     ∙ sym (ap code c.in-While.is ∙ code_While c.in-While.guard c.in-While.body) in
     did_same needs x.label (While guard body) (code x.kind) m Gone _ is
     (did_While needs x.label m _ guard body
-    (acts_taken m c.turn_loop-next.new.self c.take-in-While.new.self x.label (While guard body) c.in_ok-next-in-While.next tt c.in_ok-next-in-While.ensures
+    (acts_taken m c.turn_loop.new.self c.take-in-While.new.self x.label (While guard body) c.in_ok-next-in-While.next tt c.in_ok-next-in-While.ensures
     c.in_ok-take-in-While.ensures.frames c.in_ok-take-in-While.ensures.rest))
 
 pub returns-in_ok-take-in-Split-clause-did : goal.returns-in_ok-take-in-Split-clause-did
@@ -66,7 +66,7 @@ returns-in_ok-take-in-Split-clause-did g c =
     ∙ sym (ap code c.in-Split.is ∙ code_Split c.in-Split.sides c.in-Split.body) in
     did_same needs x.label (Split s at left right body) (code x.kind) m Gone _ is
     (did_Split needs x.label m _ s left right at body
-    (acts_taken m c.split-next.new.self c.take-in-Split.new.self x.label (Split s at left right body) c.in_ok-next-in-Split.next tt c.in_ok-next-in-Split.ensures
+    (acts_taken m c.split.new.self c.take-in-Split.new.self x.label (Split s at left right body) c.in_ok-next-in-Split.next tt c.in_ok-next-in-Split.ensures
     c.in_ok-take-in-Split.ensures.frames c.in_ok-take-in-Split.ensures.rest))
 
 pub returns-in_ok-take-in-Parts-clause-did : goal.returns-in_ok-take-in-Parts-clause-did
@@ -80,7 +80,7 @@ returns-in_ok-take-in-Parts-clause-did g c =
     ∙ sym (ap code c.in-Parts.is ∙ code_Parts c.in-Parts.pieces c.in-Parts.body) in
     did_same needs x.label (Parts s size q i body) (code x.kind) m Gone _ is
     (did_Parts needs x.label m _ s q i size body
-    (acts_taken m c.begin_turns-next.new.self c.take-in-Parts.new.self x.label (Parts s size q i body) c.in_ok-next-in-Parts.next tt c.in_ok-next-in-Parts.ensures
+    (acts_taken m c.begin_turns.new.self c.take-in-Parts.new.self x.label (Parts s size q i body) c.in_ok-next-in-Parts.next tt c.in_ok-next-in-Parts.ensures
     c.in_ok-take-in-Parts.ensures.frames c.in_ok-take-in-Parts.ensures.rest))
 
 pub returns-in_ok-take-in-Call-clause-did : goal.returns-in_ok-take-in-Call-clause-did
@@ -95,7 +95,7 @@ returns-in_ok-take-in-Call-clause-did g c =
     ∙ sym (ap code c.in-Call.is) in
     did_same needs x.label (Call f values sections) (code x.kind) m Gone _ is
     (did_Call needs x.label m _ f values sections
-    (acts_taken m c.call-next.new.self c.take-in-Call.new.self x.label (Call f values sections) c.in_ok-next-in-Call.next tt (c.in_ok-next-in-Call.ensures f called)
+    (acts_taken m c.call.new.self c.take-in-Call.new.self x.label (Call f values sections) c.in_ok-next-in-Call.next tt (c.in_ok-next-in-Call.ensures f called)
     c.in_ok-take-in-Call.ensures.frames c.in_ok-take-in-Call.ensures.rest))
 
 pub returns-in-Async-clause-did : goal.returns-in-Async-clause-did

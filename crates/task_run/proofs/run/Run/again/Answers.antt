@@ -19,7 +19,7 @@ returns-in_ok-take c =
     let guard = truth c.args.guard.now in let body = codes c.args.body.now in
     let acts = subst (λ (t : Thread TaskMemory). Acts c.args.label (While guard body) (record m { thread = t }) c.take.new.self)
     step.same
-    (acts_taken (record m { thread = t }) c.turn_loop-next.new.self c.take.new.self c.args.label (While guard body) c.in_ok-next.next tt
+    (acts_taken (record m { thread = t }) c.turn_loop.new.self c.take.new.self c.args.label (While guard body) c.in_ok-next.next tt
     c.in_ok-next.ensures c.in_ok-take.ensures.frames c.in_ok-take.ensures.rest) in
     λ needs.
     stepped needs m t.steps step.on step.less c.args.label (While guard body) Gone c.take.new.self (λ fs. fs)
