@@ -61,7 +61,7 @@ returns-in_ok-begin-in-Iteration c =
     goes_as turn c.args.next _ c.enters-in-Iteration.result n.is
     (comes_as turn (record turn { rest = c.begin.new.rest }) c.enters-in-Iteration.result
     (ap with_rest (c.in_ok-begin-in-Iteration.ensures ∙ ap again loop.1)
-    ∙ ap (λ m. with_rest (Then m (While _ b) k.rest)) loop.0)
+    ∙ ap (λ m. with_rest (Then m (While (truth n.guard.now) b) k.rest)) loop.0)
     refl refl c.enters-in-Iteration.ensures)
 
 pub returns-in_ok-begin_turns-in-Turns : goal.returns-in_ok-begin_turns-in-Turns
