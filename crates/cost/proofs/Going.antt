@@ -1,10 +1,14 @@
 -- What comes next after a statement, as frames: it is what the statement means.
-use Rattle.std.proofs.Common.{◌≡◌, ℕ, ◌+◌, ◌*◌, ◌<◌, ◌≤◌, List, [], ◌∷◌, ◌++◌, Ok, Err, refl, sym, ap, ◌∙◌, subst, arith, Bor}
+use Rattle.std.proofs.Common.{map, Vec, Global, ◌≡◌, ℕ, ◌+◌, ◌*◌, ◌<◌, ◌≤◌, List, [], ◌∷◌, ◌++◌, Ok, Err, refl, sym, ap, ◌∙◌, subst, arith, Bor}
 use Rattle.std.specs.Prelude.{ℤ, Bool, true, false, if◌then◌else◌}
+use Rattle.sections.specs.Translation.{section}
+use Rattle.sections.specs.declared.id.SectionId.{SectionId as rSection}
+use Rattle.types.specs.declared.code.Number.{Number as rNumber}
 use Rattle.types.specs.declared.code.Stmt.{Stmt}
+use Rattle.types.specs.declared.value.Environment.{Environment as rEnvironment}
 use Rattle.types.specs.Code.{Code, Codes, End, Truth, Program, Do, If, While, Split, Parts, Begun, Call, Async, Finish, Rescue}
 use Rattle.types.specs.Run.{Flow, On, State, Block, Turn, Pieces, go_on, keeping, number_at, numbers_at, truth_at}
-use Rattle.types.specs.Translation.{codes, program}
+use Rattle.types.specs.Translation.{codes, number, program}
 use Rattle.types.specs.TreeSteps.{size_by}
 use Rattle.types.specs.Value.{Valued}
 use Rattle.statement_steps.specs.declared.next.Next.{Next as rNext}
@@ -20,7 +24,8 @@ use Rattle.statement_steps.specs.Lists.{contents_of, lengths_of, lists_of}
 use Rattle.statement_steps.specs.Primitive.{halves}
 use Rattle.statement_steps.specs.Standing.{flow, state_of}
 use Rattle.statement_steps.proofs.Ends.{fits_too}
-use Rattle.statement_steps.proofs.Leading.{IsControl, goes_on, kept, led_acts, led_kept, led_lies, whole}
+use Rattle.statement_steps.specs.declared.control.Called.{Called}
+use Rattle.statement_steps.proofs.Leading.{IsControl, called_leads, spare_leads, goes_on, kept, led_acts, led_kept, led_lies, whole}
 use Rattle.cost.specs.Accounts.{Account, accounted, accounted_rules}
 use Rattle.cost.specs.Frames.{cost, costs, rate, turns_left}
 use Rattle.cost.specs.Machines.{Does, Enters, EntersBlock, HasStep, IsSound, IsSoundFrame, LeavesLess, LiesBelow, comes_to, goes, nothing, stack, stands, statement, step_rate}
@@ -292,3 +297,17 @@ less_led m t new l c n leads less =
 
 pub less_step : (m new : CostMachine) → LeavesLess 4 m new → LeavesLess (step_rate m) m new
 less_step m new less = omega (arith, less, five-rate m.plan.budget.steps m.thread.nest)
+
+-- a call led a thread with other room for calls
+pub led_call : (m : CostMachine) (t : Thread Store) (l f : ℕ) (called : Called) (values : Bor (List rNumber)) (sections : Bor (List rSection))
+    (n : rNext) (spare : Vec rEnvironment Global) → called.values ≡ values → called.sections ≡ sections
+    → Leads contents_of lengths_of (led (program m.plan.program.now) l (Call f (map number called.values.now) (map section called.sections.now))
+    (state_of m.thread)) n (record m.thread { spare = spare }) t
+    → Leads contents_of lengths_of (led (program m.plan.program.now) l (Call f (map number values.now) (map section sections.now))
+    (state_of m.thread)) n m.thread t
+led_call m t l f called values sections n spare same_values same_sections leads =
+    let p = program m.plan.program.now in
+    called_leads contents_of lengths_of p l n t m.thread f (map number called.values.now) (map number values.now) (map section called.sections.now)
+    (map section sections.now) (ap (λ (v : Bor (List rNumber)). map number v.now) same_values)
+    (ap (λ (v : Bor (List rSection)). map section v.now) same_sections)
+    (spare_leads contents_of lengths_of p l n t m.thread spare (Call f (map number called.values.now) (map section called.sections.now)) leads)

@@ -1,17 +1,22 @@
 -- What a statement leads to, and what it does: the same, whatever a run keeps in addition.
-use Rattle.std.proofs.Common.{◌≡◌, ℕ, ◌+◌, List, Ok, Err, refl, sym, ap, ◌∙◌}
+use Rattle.std.proofs.Common.{◌≡◌, ℕ, List, Ok, Err, Vec, Global, refl, subst}
 use Rattle.std.specs.Prelude.{ℤ, Bool, true, false, map, ok_or, if◌then◌else◌}
 use Rattle.sections.specs.Place.{Window, piece_at, piece_of, sides_of, has_piece}
 use Rattle.types.specs.declared.fault.FaultKind.{FaultKind}
 use Rattle.types.specs.declared.fault.FaultKind.TheVariants.{SplitPoint, PieceSize}
 use Rattle.types.specs.Code.{Code, Codes, Number, Truth, Program, Do, If, While, Split, Parts, Begun, Call, Async, Finish, Rescue}
+use Rattle.types.specs.Contents.{Contents}
 use Rattle.types.specs.Run.{State, Rules, Work, Block, Turn, Pieces, act, block, choose, entry, fault, go_on, in_turn, keeping, number_at, numbers_at}
 use Rattle.types.specs.Run.{piece_size, procedure_of, truth_at, window_at, with_piece, with_sides, with_value}
 use Rattle.types.specs.TreeSteps.{size_by}
 use Rattle.types.specs.Value.{Environment, Valued, then_try}
-use Rattle.statement_steps.specs.Bounds.{LiesInArray, LiesInArrays}
-use Rattle.statement_steps.specs.Leading.{Next, Nothing, Inside, Iteration, Turns, Body, Led, by_value, faulted, led, leads_to}
+use Rattle.types.specs.declared.value.Environment.{Environment as Environments}
+use Rattle.statement_steps.specs.declared.next.Next.{Next as rNext}
+use Rattle.statement_steps.specs.declared.thread.Thread.{Thread}
+use Rattle.statement_steps.specs.Bounds.{LiesInArrays}
+use Rattle.statement_steps.specs.Leading.{Next, Nothing, Inside, Iteration, Turns, Body, Led, Leads, by_value, led, leads_to}
 use Rattle.statement_steps.specs.Primitive.{halves}
+use Rattle.statement_steps.specs.Standing.{state_by}
 use Rattle.statement_steps.proofs.BoundsLemmas.{entry_lies, halves_lie, with_piece_lies, with_sides_lies}
 
 -- a condition, a loop, a `split`, a `parts` before its turns, or a call
@@ -129,3 +134,27 @@ module _ (p : Program) where
   led_lies l (Async b) st lies = lies
   led_lies l (Finish b) st lies = lies
   led_lies l (Rescue b x c) st lies = lies
+
+-- ---- the same step, told otherwise
+
+module _ {S A : Type 0} (contents : S → Contents) (shape : S → A) (p : Program) (l : ℕ) (n : rNext) (new : Thread S) where
+  -- with equal arguments of a call
+  pub called_leads : (old : Thread S) (f : ℕ) (es ds : List Number) (ss ts : List ℕ) → es ≡ ds → ss ≡ ts
+      → Leads contents shape (led p l (Call f es ss) (state_by contents old)) n old new
+      → Leads contents shape (led p l (Call f ds ts) (state_by contents old)) n old new
+  called_leads old f es ds ss ts same_values same_sections leads =
+      subst (λ vs. Leads contents shape (led p l (Call f vs ts) (state_by contents old)) n old new) same_values
+      (subst (λ ws. Leads contents shape (led p l (Call f es ws) (state_by contents old)) n old new) same_sections leads)
+
+  -- from a thread with other room for calls
+  pub spare_leads : (old : Thread S) (spare : Vec Environments Global) (c : Code)
+      → Leads contents shape (led p l c (state_by contents old)) n (record old { spare = spare }) new
+      → Leads contents shape (led p l c (state_by contents old)) n old new
+  spare_leads old spare c leads = record {
+    next = leads.next;
+    state = leads.state;
+    steps = leads.steps;
+    nest = leads.nest;
+    spawned = leads.spawned;
+    memory = leads.memory;
+  }

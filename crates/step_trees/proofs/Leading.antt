@@ -1,5 +1,5 @@
 -- What a statement leads to is what a leaf becomes by it.
-use Rattle.std.proofs.Common.{◌≡◌, ℕ, List, ◌∷◌, Ok, Err, refl, sym, ap, ◌∙◌, subst, Result}
+use Rattle.std.proofs.Common.{Bor, ◌≡◌, ℕ, List, ◌∷◌, Ok, Err, refl, sym, ap, ◌∙◌, subst, Result}
 use Rattle.std.specs.Prelude.{ℤ, Bool, true, false, IfOk, map, ok_or, if◌then◌else◌}
 use Rattle.std.specs.declared.alloc.AllocError.{AllocError}
 use Rattle.sections.specs.Place.{Window, has_piece, sides_of}
@@ -7,7 +7,10 @@ use Rattle.types.specs.declared.fault.FaultKind.TheVariants.{SplitPoint, PieceSi
 use Rattle.types.specs.Code.{Code, Codes, Truth, Program, Do, If, While, Split, Parts, Begun, Call, Async, Finish, Rescue}
 use Rattle.types.specs.Contents.{Contents, read}
 use Rattle.types.specs.Run.{Flow, State, number_at, numbers_at, piece_size, truth_at, window_at}
-use Rattle.types.specs.Translation.{program}
+use Rattle.sections.specs.Translation.{section}
+use Rattle.sections.specs.declared.id.SectionId.{SectionId as rSection}
+use Rattle.types.specs.declared.code.Number.{Number as rNumber}
+use Rattle.types.specs.Translation.{number, program}
 use Rattle.types.specs.Trees.{Leaf, Tree, before_rest, single}
 use Rattle.types.specs.TreeSteps.{as_state, on_value, size_by, store_after, tree_after}
 use Rattle.types.specs.Value.{Valued, then_try}
@@ -18,7 +21,8 @@ use Rattle.statement_steps.specs.Leading.{Next, Nothing, Inside, Iteration, Turn
 use Rattle.statement_steps.specs.Lists.{contents_of, lengths_of}
 use Rattle.statement_steps.specs.Primitive.{halves}
 use Rattle.statement_steps.specs.Standing.{flow, state_of}
-use Rattle.statement_steps.proofs.Leading.{IsControl}
+use Rattle.statement_steps.specs.declared.control.Called.{Called}
+use Rattle.statement_steps.proofs.Leading.{IsControl, called_leads}
 use Rattle.step_trees.specs.declared.turn.Becomes.{Becomes}
 use Rattle.step_trees.specs.declared.turn.LeafTurn.{LeafTurn}
 use Rattle.step_trees.specs.Translation.{blocks, callers}
@@ -136,3 +140,15 @@ after_led turn t l c n r is ready leads comes =
     (ap (λ (st : State (Unit {0})). st.store) leads.state ∙ ap store_from (state_in turn ready)
     ∙ sym (store_led p l (leaf_in turn) (store_in turn) c is))
     leads.memory comes
+
+-- a call with these arguments led there
+pub led_call : (turn : LeafTurn) (t : Thread Store) (l f : ℕ) (called : Called) (values : Bor (List rNumber)) (sections : Bor (List rSection))
+    (n : rNext) → called.values ≡ values → called.sections ≡ sections
+    → Leads contents_of lengths_of (led (program turn.plan.program.now) l (Call f (map number called.values.now)
+    (map section called.sections.now)) (state_of turn.thread)) n turn.thread t
+    → Leads contents_of lengths_of (led (program turn.plan.program.now) l (Call f (map number values.now)
+    (map section sections.now)) (state_of turn.thread)) n turn.thread t
+led_call turn t l f called values sections n same_values same_sections leads =
+    called_leads contents_of lengths_of (program turn.plan.program.now) l n t turn.thread f (map number called.values.now) (map number values.now)
+    (map section called.sections.now) (map section sections.now) (ap (λ (v : Bor (List rNumber)). map number v.now) same_values)
+    (ap (λ (v : Bor (List rSection)). map section v.now) same_sections) leads

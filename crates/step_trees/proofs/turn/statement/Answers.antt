@@ -4,7 +4,7 @@ use Rattle.types.specs.Code.{Code, Call, If, Parts, Split, While}
 use Rattle.types.specs.Translation.{code, codes, number, truth}
 use Rattle.statement_steps.specs.Leading.{next_of}
 use Rattle.step_trees.specs.Turns.{IsLoopOf}
-use Rattle.step_trees.proofs.Leading.{after_led, led_loop}
+use Rattle.step_trees.proofs.Leading.{after_led, led_call, led_loop}
 use Rattle.effects.proofs.Statements.{is_If, is_While, is_Split, is_Parts, is_Async, is_Finish, is_Rescue}
 use Rattle.step_trees.proofs.Turns.{after_as}
 use Rattle.step_trees.proofs.turn.statement.Goals as goal
@@ -73,14 +73,18 @@ take-requires-in-Call c =
     let s = c.in-Call in let l = c.args.stmt.now.label in
     let same = refl in
     subst (λ (d : Code). IsLoopOf l d (next_of c.in_ok-next-in-Call.next)) (sym same)
-    (led_loop c.args.turn c.call.new.self l (Call s.procedure.number (map number c.deref-in-Call.result.now) (map section c.deref-in-Call-2.result.now)) c.in_ok-next-in-Call.next (c.in_ok-next-in-Call.ensures s.procedure.number c.of-called.ensures.body))
+    (led_loop c.args.turn c.call.new.self l (Call s.procedure.number (map number c.deref-in-Call.result.now) (map section c.deref-in-Call-2.result.now)) c.in_ok-next-in-Call.next (led_call c.args.turn c.call.new.self l s.procedure.number c.of-called.result c.deref-in-Call.result c.deref-in-Call-2.result
+    c.in_ok-next-in-Call.next c.of-called.ensures.values c.of-called.ensures.sections
+    (c.in_ok-next-in-Call.ensures s.procedure.number c.of-called.ensures.body)))
 
 pub returns-in_ok-next-in-Call : goal.returns-in_ok-next-in-Call
 returns-in_ok-next-in-Call c =
     let s = c.in-Call in let l = c.args.stmt.now.label in
     let same = refl in
     after_as c.args.turn l c.take-in-Call.result (sym same)
-    (after_led c.args.turn c.call.new.self l (Call s.procedure.number (map number c.deref-in-Call.result.now) (map section c.deref-in-Call-2.result.now)) c.in_ok-next-in-Call.next c.take-in-Call.result tt c.requires (c.in_ok-next-in-Call.ensures s.procedure.number c.of-called.ensures.body) c.take-in-Call.ensures)
+    (after_led c.args.turn c.call.new.self l (Call s.procedure.number (map number c.deref-in-Call.result.now) (map section c.deref-in-Call-2.result.now)) c.in_ok-next-in-Call.next c.take-in-Call.result tt c.requires (led_call c.args.turn c.call.new.self l s.procedure.number c.of-called.result c.deref-in-Call.result c.deref-in-Call-2.result
+    c.in_ok-next-in-Call.next c.of-called.ensures.values c.of-called.ensures.sections
+    (c.in_ok-next-in-Call.ensures s.procedure.number c.of-called.ensures.body)) c.take-in-Call.ensures)
 
 pub returns-in-Async : goal.returns-in-Async
 returns-in-Async c =

@@ -1,4 +1,4 @@
-use Rattle.std.proofs.Common.{◌≡◌, ap, ◌∙◌, sym, subst, map}
+use Rattle.std.proofs.Common.{Bor, List, ◌≡◌, ap, ◌∙◌, sym, subst, map}
 use Rattle.std.specs.Prelude.{IfOk}
 use Rattle.sections.specs.Translation.{section}
 use Rattle.types.specs.Code.{Code, Do, If, While, Split, Parts, Call, Async, Finish, Rescue}
@@ -7,7 +7,12 @@ use Rattle.types.proofs.Blocks.{code_If, code_While, code_Split, code_Parts, cod
 use Rattle.task_run.specs.RunTurns.{CanAct, DidAct}
 use Rattle.task_run.specs.declared.turn.Done.TheVariants.{Gone, Entered}
 use Rattle.task_run.proofs.RunSteps.{acts_primitive, did_Call, did_Do, did_Finish, did_If, did_Parts, did_Rescue, did_same, did_Split, did_While}
-use Rattle.task_run.proofs.Leading.{acts_taken}
+use Rattle.sections.specs.declared.id.SectionId.{SectionId as rSection}
+use Rattle.types.specs.declared.code.Number.{Number as rNumber}
+use Rattle.types.specs.Translation.{program}
+use Rattle.statement_steps.proofs.Leading.{called_leads}
+use Rattle.task_run.proofs.RunSteps.{shape}
+use Rattle.task_run.proofs.Leading.{acts_taken, contents}
 use Rattle.task_run.proofs.run.Run.act.Goals as goal
 
 pub spawn-requires-clause-can : goal.spawn-requires-clause-can
@@ -95,7 +100,11 @@ returns-in_ok-take-in-Call-clause-did g c =
     ∙ sym (ap code c.in-Call.is) in
     did_same needs x.label (Call f values sections) (code x.kind) m Gone _ is
     (did_Call needs x.label m _ f values sections
-    (acts_taken m c.call.new.self c.take-in-Call.new.self x.label (Call f values sections) c.in_ok-next-in-Call.next tt (c.in_ok-next-in-Call.ensures f called)
+    (acts_taken m c.call.new.self c.take-in-Call.new.self x.label (Call f values sections) c.in_ok-next-in-Call.next tt (called_leads contents shape (program m.plan.program.now) x.label c.in_ok-next-in-Call.next c.call.new.self m.thread f
+    (map number c.of-called.result.values.now) values (map section c.of-called.result.sections.now) sections
+    (ap (λ (v : Bor (List rNumber)). map number v.now) c.of-called.ensures.values)
+    (ap (λ (v : Bor (List rSection)). map section v.now) c.of-called.ensures.sections)
+    (c.in_ok-next-in-Call.ensures f c.of-called.ensures.body))
     c.in_ok-take-in-Call.ensures.frames c.in_ok-take-in-Call.ensures.rest))
 
 pub returns-in-Async-clause-did : goal.returns-in-Async-clause-did
