@@ -1,6 +1,6 @@
 -- A statement that leads to others does in a run what it does in a task.
 use Rattle.std.proofs.Common.{◌≡◌, ◌≢◌, ℕ, ◌+◌, ◌≤◌, List, [], ◌∷◌, ◌++◌, Ok, Err, Vec, Global, refl, sym, ap, ◌∙◌, subst, arith}
-use Rattle.std.proofs.lemmas.List.{append-assoc, append-nil}
+use Rattle.std.proofs.lemmas.List.{append_assoc, append-nil}
 use Rattle.std.specs.Prelude.{ℤ, Bool, true, false, map, ok_or}
 use Rattle.sections.specs.Place.{Place, Window, sides_of}
 use Rattle.types.specs.declared.fault.FaultKind.TheVariants.{SplitPoint, PieceSize}
@@ -87,7 +87,7 @@ module _ (x : Own) (fs : List (Frame Own)) where
 -- ---- the frames in Rust
 
 two_more : (gs : List rFrame) (a b : rFrame) → gs ++ a ∷ b ∷ [] ≡ (gs ++ a ∷ []) ++ b ∷ []
-two_more gs a b = sym (append-assoc gs (a ∷ []) (b ∷ []))
+two_more gs a b = sym (append_assoc gs (a ∷ []) (b ∷ []))
 
 pub stacked_put : (gs : List rFrame) (n : rNext) (fs : List (Frame Own)) → Stacked gs fs
     → Stacked (gs ++ frames_of n) (put (next_of n) fs)

@@ -80,7 +80,7 @@ module _ (x : Own) (l : ℕ) where
   primitive_own p (Print es) st = value_own (numbers_at st es) _ _ (λ vs st. refl) st
   primitive_own p (Raise e) st = value_own (number_at st e) _ _ (λ v st. refl) st
 
-abbrev shape : TaskMemory → Place → Bool
+abbrev pub shape : TaskMemory → Place → Bool
 shape m = owned_by m.holdings
 
 -- ---- the tasks that a run represents

@@ -1,4 +1,4 @@
-use Rattle.std.proofs.Common.{sym, ap, refl, map, subst}
+use Rattle.std.proofs.Common.{sym, ap, ◌∙◌, map, subst}
 use Rattle.sections.specs.Translation.{section}
 use Rattle.types.specs.Code.{Code, Call, If, Parts, Split, While}
 use Rattle.types.specs.Translation.{code, codes, number, truth}
@@ -71,7 +71,10 @@ returns-in_ok-next-in-Parts c =
 pub take-requires-in-Call : goal.take-requires-in-Call
 take-requires-in-Call c =
     let s = c.in-Call in let l = c.args.stmt.now.label in
-    let same = refl in
+    let same = sym
+    (ap (λ v. Call s.procedure.number (map number v) (map section c.deref-in-Call-2.result.now)) c.deref-in-Call.ensures.value
+    ∙ ap (λ v. Call s.procedure.number (map number s.values.items) (map section v)) c.deref-in-Call-2.ensures.value
+    ∙ sym (ap code s.is)) in
     subst (λ (d : Code). IsLoopOf l d (next_of c.in_ok-next-in-Call.next)) (sym same)
     (led_loop c.args.turn c.call.new.self l (Call s.procedure.number (map number c.deref-in-Call.result.now) (map section c.deref-in-Call-2.result.now)) c.in_ok-next-in-Call.next (led_call c.args.turn c.call.new.self l s.procedure.number c.of-called.result c.deref-in-Call.result c.deref-in-Call-2.result
     c.in_ok-next-in-Call.next c.of-called.ensures.values c.of-called.ensures.sections
@@ -80,7 +83,10 @@ take-requires-in-Call c =
 pub returns-in_ok-next-in-Call : goal.returns-in_ok-next-in-Call
 returns-in_ok-next-in-Call c =
     let s = c.in-Call in let l = c.args.stmt.now.label in
-    let same = refl in
+    let same = sym
+    (ap (λ v. Call s.procedure.number (map number v) (map section c.deref-in-Call-2.result.now)) c.deref-in-Call.ensures.value
+    ∙ ap (λ v. Call s.procedure.number (map number s.values.items) (map section v)) c.deref-in-Call-2.ensures.value
+    ∙ sym (ap code s.is)) in
     after_as c.args.turn l c.take-in-Call.result (sym same)
     (after_led c.args.turn c.call.new.self l (Call s.procedure.number (map number c.deref-in-Call.result.now) (map section c.deref-in-Call-2.result.now)) c.in_ok-next-in-Call.next c.take-in-Call.result tt c.requires (led_call c.args.turn c.call.new.self l s.procedure.number c.of-called.result c.deref-in-Call.result c.deref-in-Call-2.result
     c.in_ok-next-in-Call.next c.of-called.ensures.values c.of-called.ensures.sections
