@@ -44,7 +44,7 @@ returns-in_ok-take-in-If-clause-did g c =
     ∙ sym (ap code c.in-If.is ∙ code_If c.in-If.guard c.in-If.body c.in-If.other) in
     did_same needs x.label (If guard body other) (code x.kind) m Gone _ is
     (did_If needs x.label m _ guard body other
-    (acts_taken m c.choose.new.self c.take-in-If.new.self x.label (If guard body other) c.in_ok-next-in-If.next tt c.in_ok-next-in-If.ensures
+    (acts_taken m c.choose.new.self c.take.new.self x.label (If guard body other) c.in_ok-next-in-If.next tt c.in_ok-next-in-If.ensures
     c.in_ok-take-in-If.ensures.frames c.in_ok-take-in-If.ensures.rest))
 
 pub returns-in_ok-take-in-While-clause-did : goal.returns-in_ok-take-in-While-clause-did
