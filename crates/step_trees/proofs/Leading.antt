@@ -67,9 +67,6 @@ module _ (p : Program) (l : ℕ) (k : Leaf) (a : Contents) where
   store_value (Ok x) go same = same x
   store_value (Err f) go same = refl
 
-  store_if : (m n : Next) (v : Bool) → a ≡ (leads_to (if v then m else n) (as_state k a)).state.store
-  store_if m n v = refl
-
   -- and what the store becomes
   pub store_led : (c : Code) → IsControl c → store_after p l c k a ≡ (led p l c (as_state k a)).state.store
   store_led (Do s) is = elim is [ ]
