@@ -18,3 +18,4 @@ pub mod Rescues
 pub mod Waiting
 pub mod MachineLemmas
 pub mod EndLemmas
+pub mod Going

@@ -22,38 +22,6 @@ use Rattle.cost.specs.Resume.{Standing, acted, doing, resume}
 use Rattle.cost.proofs.Frames.{flow_on, meant, acted_by, step_taken, not_done, blocked, block_on_top, resume-pushed, faulted, paid}
 
 module _ (p : Program) (fresh : ℕ) where
-  -- all turns, once the size of the pieces is known
-  abbrev all_turns : (l sec q i : ℕ) → Codes → (nest size : ℕ) → State Account → State Account
-  all_turns l sec q i c nest size = accounted p fresh nest (Pieces l sec size 0 q i c)
-
-  -- a `parts` whose turns are a frame; `none` is an empty block
-  pub turns_on_top : (fs gs hs : List CostFrame) (t : TurnsToCome) (none : Bor (List Stmt)) (e : Number) (s : Standing)
-      → s.state.flow ≡ On → Ok t.size ≡ size_by (number_at (untallied (totals s.state)) e) → t.next ≡ 0
-      → gs ≡ fs ++ Turns t ∷ [] → hs ≡ gs ++ Rest none ∷ [] → codes none.now ≡ End
-      → resume p fresh hs s
-      ≡ resume p fresh fs (acted p fresh t.label (Parts t.section.number e t.piece.number t.turn.number (codes t.body.now)) s)
-  turns_on_top fs gs hs t none e s on size first g h empty =
-      let b = codes t.body.now in
-      let go = all_turns t.label t.section.number t.piece.number t.turn.number b s.nest in
-      let at : State Account → Standing = λ st. record s { state = st } in
-      block_on_top p fresh gs hs none End s on h empty
-      ∙ resume-pushed p fresh fs gs (Turns t) s g
-      ∙ ap (λ st. resume p fresh fs (at st)) (flow_on s.state.flow s.state (accounted p fresh s.nest (pieces t)) on)
-      ∙ ap (λ k. resume p fresh fs (at (accounted p fresh s.nest
-      (Pieces t.label t.section.number t.size k t.piece.number t.turn.number b) s.state))) first
-      ∙ acted_by p fresh fs t.label (Ok t.size) (size_by (number_at s.state e)) go s size
-      ∙ ap (λ st. resume p fresh fs (at st))
-      (value_twice t.label (number_at s.state e) (λ v. ok_or (piece_size v) PieceSize) go s.state)
-
-  -- a size that faults
-  pub size_faults : (fs gs : List CostFrame) (c : Codes) (sec q i l : ℕ) (e : Number) (f : FaultKind) (s t : Standing)
-      → Err f ≡ size_by (number_at (untallied (totals s.state)) e) → t.state ≡ fault l f s.state → t.nest ≡ s.nest → gs ≡ fs
-      → resume p fresh gs t ≡ resume p fresh fs (acted p fresh l (Parts sec e q i c) s)
-  size_faults fs gs c sec q i l e f s t v st n g =
-      faulted p fresh fs gs l f (size_by (number_at s.state e)) (all_turns l sec q i c s.nest) s t v st n g
-      ∙ ap (λ (st : State Account). resume p fresh fs (record s { state = st }))
-      (value_twice l (number_at s.state e) (λ v. ok_or (piece_size v) PieceSize) (all_turns l sec q i c s.nest) s.state)
-
   -- the block of a turn whose step was taken, and the later turns below it
   pub turn_on_top : (fs gs hs : List CostFrame) (t : TurnsToCome) (env : Environment) (s : Standing) → s.state.flow ≡ On
       → env ≡ (in_turn t.section.number t.size t.next t.piece.number t.turn.number s.state).environment

@@ -2,10 +2,12 @@
 use Rattle.std.specs.Prelude.{ℕ, List, [], ◌∷◌, ◌++◌, map, ℤ, Option, Some, None}
 use Rattle.types.specs.Code.{Code, Finish, Rescue, Codes, Program}
 use Rattle.types.specs.Meaning.{after_async, after_finish}
-use Rattle.types.specs.Run.{Fault, State, Work, Block, Turn, go_on, act, keeping, rescued}
+use Rattle.types.specs.Run.{Fault, State, Work, Block, Turn, Pieces, go_on, act, keeping, rescued}
 use Rattle.types.specs.Translation.{codes, truth, environment, fault}
 use Rattle.statement_steps.specs.declared.store.Store.{Store}
 use Rattle.statement_steps.specs.declared.thread.Thread.{Thread}
+use Rattle.statement_steps.specs.Leading.{Next, Nothing, Inside, Iteration, Body}
+use Rattle.statement_steps.specs.Leading.{Turns as TurnsNext}
 use Rattle.statement_steps.specs.Standing.{state_of}
 use Rattle.statement_steps.specs.Turns.{pieces}
 use Rattle.cost.specs.declared.frame.CostFrame.{CostFrame}
@@ -82,6 +84,15 @@ module _ (p : Program) (fresh : ℕ) where
       record s {
         state = act p (accounted_rules p fresh s.nest) (accounted p fresh s.nest) l c s.state;
       }
+
+  -- what comes next after a statement
+  abbrev pub going : Next → Standing → Standing
+  going Nothing s = s
+  going (Inside b) s = doing (Block b) s
+  going (Iteration l t b) s = doing (Turn l t b) (doing (Block b) s)
+  going (TurnsNext l sec n k x i b) s = doing (Pieces l sec n k x i b) s
+  going (Body b env) s =
+      let out = doing (Block b) s in record out { state = record out.state { environment = env } }
 
   -- what a frame does once those above it are done
   abbrev pub frame : CostFrame → Standing → Standing

@@ -6,5 +6,6 @@ pub mod BoundsLemmas
 pub mod Stores
 pub mod Pairs
 pub mod Pieces
+pub mod Leading
 pub mod Watching
 pub mod WatchedExamples

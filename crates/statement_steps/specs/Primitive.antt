@@ -46,7 +46,7 @@ CanStore p Writable st (Print es) = ⊤
 CanStore p Writable st (Raise e) = ⊤
 
 -- both sides of a section, split at the value of an expression
-abbrev pub halves : State (Unit {0}) → (section : ℕ) → Number → Valued (Window × Window)
+abbrev pub halves : {X : Type 0} → State X → (section : ℕ) → Number → Valued (Window × Window)
 halves st s e = then_try (number_at st e) (λ v. ok_or (sides_of (window_at st s) v) SplitPoint)
 
 -- the size of the pieces of a `parts` that the code returns

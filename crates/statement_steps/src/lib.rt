@@ -2,8 +2,10 @@
 
 #![tactic(auto)]
 
+pub mod control;
 pub mod flow;
 pub mod memory;
+pub mod next;
 pub mod quick;
 pub mod store;
 pub mod thread;

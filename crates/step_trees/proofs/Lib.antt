@@ -30,4 +30,5 @@ pub mod Standings
 pub mod Statements
 pub mod Steps
 pub mod Turns
+pub mod Leading
 pub mod Walks

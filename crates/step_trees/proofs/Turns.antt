@@ -109,11 +109,6 @@ module _ (p : Program) (l : ℕ) (s : Primitive) (turn : LeafTurn) (ready : IsRe
   pub store-after : (state_of new).store ≡ store_after p l (Do s) here (store_in turn)
   store-after = ap (λ (x : State (Unit {0})). x.store) comes_to
 
--- a call of a body without statements
-pub call_of_nothing : (f : Procedure) (env : Environment) (k : Leaf) → f.body ≡ End → single k ≡ single (called f env k)
-call_of_nothing f env k none =
-    ap Single (sym (returned-up (called f env k) (record { environment = k.environment; rest = k.rest }) k.callers none refl))
-
 -- the body of an async in parallel with its parent, given equal parts of the leaf
 pub spawned_tree : (b : Codes) (k j : Leaf) (path : List ℕ) (n : ℕ) (x a y : Leaf) → j ≡ k → path ≡ k.path ++ n ∷ [] → n ≡ k.spawned + 1
     → x ≡ returned (record (inside b j) { path = path; spawned = 0 }) → a ≡ held_back j → y ≡ returned (record a { spawned = n })
@@ -161,12 +156,3 @@ with_turns-leaf false k rest = refl
 pub after_as : (turn : LeafTurn) (l : ℕ) {s d : Code} (r : Result (Becomes × Store) AllocError) → s ≡ d
     → IfOk r (After turn l s) → IfOk r (After turn l d)
 after_as turn l r is h = subst (λ (s : Code). IfOk r (After turn l s)) is h
-
--- a leaf that is replaced by the start of a procedure
-pub called_as : (f : Procedure) (env : Environment) (k : Leaf) (e : Environment) (rest : Codes) (fs : List Caller)
-    → e ≡ env → rest ≡ f.body → fs ≡ record { environment = k.environment; rest = k.rest } ∷ k.callers
-    → single (record k { environment = e; rest = rest; callers = fs }) ≡ single (called f env k)
-called_as f env k e rest fs env_is rest_is callers_is =
-    ap (λ (x : Environment). let j : Leaf = record k { environment = x; rest = rest; callers = fs } in single j) env_is
-    ∙ ap (λ (c : Codes). let j : Leaf = record k { environment = env; rest = c; callers = fs } in single j) rest_is
-    ∙ ap (λ (gs : List Caller). let j : Leaf = record k { environment = env; rest = f.body; callers = gs } in single j) callers_is

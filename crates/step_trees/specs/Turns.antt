@@ -1,15 +1,16 @@
 -- One step of a leaf, as the definitions see it.
-use Rattle.std.specs.Prelude.{ℕ, ◌≡◌, Some, List}
-use Rattle.types.specs.Code.{Code, Codes}
+use Rattle.std.specs.Prelude.{ℕ, ◌≡◌, ⊤, Some, List, ◌∷◌}
+use Rattle.types.specs.Code.{Code, Codes, While, Then, End}
 use Rattle.types.specs.Contents.{Contents, FitsArrays}
-use Rattle.types.specs.Run.{State}
+use Rattle.types.specs.Run.{State, Flow}
 use Rattle.types.specs.Translation.{program, environment}
-use Rattle.types.specs.Trees.{Caller, Leaf, Tree, Single, Beside, and_then}
-use Rattle.types.specs.TreeSteps.{tree_after, store_after, leaf_step}
+use Rattle.types.specs.Trees.{Caller, Leaf, Tree, Single, Beside, and_then, before_rest, single}
+use Rattle.types.specs.TreeSteps.{before_turns, by_flow, tree_after, store_after, leaf_step}
 use Rattle.statement_steps.specs.declared.store.Store.{Store}
 use Rattle.statement_steps.specs.declared.flow.Flow.TheVariants.{On}
 use Rattle.statement_steps.specs.declared.thread.Plan.{Plan}
 use Rattle.statement_steps.specs.Bounds.{LiesInArrays, IsInBounds}
+use Rattle.statement_steps.specs.Leading.{Next, Nothing, Inside, Iteration, Turns, Body}
 use Rattle.statement_steps.specs.Lists.{lists_of, contents_of, lengths_of}
 use Rattle.statement_steps.specs.Standing.{state_of}
 use Rattle.step_trees.specs.declared.leaf.Leaf.{Leaf as rLeaf}
@@ -49,6 +50,25 @@ pub record Comes (t : Tree) (a : Contents) (turn : LeafTurn) (r : Becomes × Sto
   pub tree : becomes r.0 ≡ t
   pub store : contents_of r.1 ≡ a
   pub lengths : lengths_of r.1 ≡ lengths_of turn.thread.store
+
+-- what a leaf becomes by what comes next after a statement, if its task has this flow
+abbrev pub becomes_by : Next → Flow → Leaf → Tree
+becomes_by Nothing f k = by_flow f k
+becomes_by (Inside b) f k = single (before_rest b k)
+becomes_by (Iteration l t b) f k = single (before_rest b (before_rest (Then l (While t b) End) k))
+becomes_by (Turns l s n m x i b) f k = single (before_turns l s n m x i b k)
+becomes_by (Body b env) f k = single (record k {
+  rest = b;
+  callers = record { environment = env; rest = k.rest } ∷ k.callers;
+})
+
+-- if a loop comes next, it is this statement
+abbrev pub IsLoopOf : (label : ℕ) → Code → Next → Type 0
+IsLoopOf l s (Iteration m t b) = (l ≡ m) × (s ≡ While t b)
+IsLoopOf l s Nothing = ⊤
+IsLoopOf l s (Inside b) = ⊤
+IsLoopOf l s (Turns m sec n k x i b) = ⊤
+IsLoopOf l s (Body b env) = ⊤
 
 -- the result of executing a statement
 abbrev pub After : LeafTurn → (label : ℕ) → Code → Becomes × Store → Type 0

@@ -1,30 +1,32 @@
 //! One step of a leaf.
 
-ghost use Rattle.std.specs.Prelude.{◌≡◌, map, false, IfOk, OnOk};
-ghost use Rattle.sections.specs.Translation.{section as section_of};
-ghost use Rattle.types.specs.Code.{Async, Call, Do, If, Parts, Split, While};
-ghost use Rattle.types.specs.Translation.{code as code_of, codes as codes_of, number as number_of};
-ghost use Rattle.types.specs.Translation.{primitive as primitive_of, truth as truth_of};
-ghost use Rattle.types.specs.Trees.{and_then, before_rest, done as done_leaf, failed as failed_leaf};
+ghost use Rattle.std.specs.Prelude.{◌≡◌, false, IfOk, OnOk};
+ghost use Rattle.types.specs.Code.{Async, Do};
+ghost use Rattle.types.specs.Translation.{code as code_of, codes as codes_of, environment as environment_of};
+ghost use Rattle.types.specs.Translation.{primitive as primitive_of};
+ghost use Rattle.types.specs.Trees.{and_then, before_rest, done as done_leaf};
 ghost use Rattle.types.specs.Trees.{held_back, inside as inside_leaf, is_done};
 ghost use Rattle.types.specs.Trees.{returned as returned_leaf, single, Single};
+ghost use Rattle.statement_steps.specs.Leading.{Body, next_of};
+ghost use Rattle.statement_steps.specs.Standing.{flow as flow_of};
 ghost use Rattle.statement_steps.specs.Turns.{begun};
 ghost use Rattle.step_trees.specs.Translation.{handler_of, leaf_of, next_label, next_code};
-ghost use Rattle.step_trees.specs.Turns.{leaf_in, store_in, Comes, After, IsReady, Steps, MayTurn};
+ghost use Rattle.step_trees.specs.Turns.{leaf_in, store_in, becomes_by, Comes, After, IsLoopOf, IsReady, Steps};
+ghost use Rattle.step_trees.specs.Turns.{MayTurn};
 
 use crate::leaf::{Caller, Handler, Leaf, Waiting, done, returned};
 use crate::rest::{NextStep, RestOfBlock, begin, begin_turns, block_alone, enter, next};
-use sections::id::SectionId;
+use statement_steps::control::Called;
 use statement_steps::flow::Flow;
+use statement_steps::next::Next;
 use statement_steps::store::Store;
 use statement_steps::thread::{Plan, Thread};
 use statement_steps::turns::TurnsToCome;
 use std::alloc::{AllocError, Global};
 use types::child_number::ChildNumber;
-use types::code::{Label, Number, Pieces, Primitive, Stmt, StmtKind, Truth};
-use types::fault::FaultKind;
-use types::ids::ProcedureId;
+use types::code::{Label, Primitive, Stmt, StmtKind};
 use types::path::Path;
+use types::value::Environment;
 
 /// What a leaf becomes in one step.
 #[derive(Drop)]
@@ -94,25 +96,39 @@ fn perform<'p>(turn: LeafTurn<'p>, step: NextStep<'p>) -> Result<(Becomes<'p>, S
 }
 
 /// Executes a statement.
-fn statement<'p>(turn: LeafTurn<'p>, stmt: &'p Stmt) -> Result<(Becomes<'p>, Store), AllocError>
+fn statement<'p>(mut turn: LeafTurn<'p>, stmt: &'p Stmt) -> Result<(Becomes<'p>, Store), AllocError>
     requires { IsReady turn }
     ensures { IfOk result (After turn.entry stmt.entry.now.label (code_of stmt.entry.now.kind)) }
 {
-    let label = stmt.label;
+    let (plan, label) = (turn.plan, stmt.label);
     match &stmt.kind {
         StmtKind::Do(statement) => primitive(turn, label, statement),
-        StmtKind::If { guard, body, other } => choose(turn, label, guard, body, other),
-        StmtKind::While { guard, body } => turn_loop(turn, stmt, guard, body),
-        StmtKind::Split { sides, body } => {
-            let both = (sides.left, sides.right);
-            split(turn, label, sides.section, &sides.at, both, body)
+        StmtKind::If { guard, body, other } => {
+            let next = turn.thread.choose(plan, label, guard, body, other)?;
+            take(turn, stmt, next)
         }
-        StmtKind::Parts { pieces, body } => parts(turn, label, pieces, body),
+        StmtKind::While { guard, body } => {
+            let next = turn.thread.turn_loop(plan, label, guard, body)?;
+            take(turn, stmt, next)
+        }
+        StmtKind::Split { sides, body } => {
+            let next = turn.thread.split(plan, label, sides, body)?;
+            take(turn, stmt, next)
+        }
+        StmtKind::Parts { pieces, body } => {
+            let next = turn.thread.begin_turns(plan, label, pieces, body)?;
+            take(turn, stmt, next)
+        }
         StmtKind::Call {
             procedure,
             values,
             sections,
-        } => call(turn, label, *procedure, values, sections),
+        } => {
+            let called = Called::of(plan, *procedure, values, sections);
+            let room = no_room(plan.alloc);
+            let next = turn.thread.call(plan, label, called, room)?;
+            take(turn, stmt, next)
+        }
         StmtKind::Async { body } => begin_async(turn, body),
         StmtKind::Finish { body } => begin_finish(turn, body, None),
         StmtKind::Rescue {
@@ -146,88 +162,62 @@ fn primitive<'p>(
     }
 }
 
-/// Enters one of two blocks, depending on the condition.
-fn choose<'p>(
-    turn: LeafTurn<'p>,
-    label: Label,
-    guard: &Truth,
-    body: &'p [Stmt],
-    other: &'p [Stmt],
-) -> Result<(Becomes<'p>, Store), AllocError>
-    requires { IsReady turn }
-    ensures { IfOk result (After turn.entry label (If (truth_of guard.now)
-        (codes_of body.entry.now) (codes_of other.entry.now))) }
-{
-    match turn.thread.truth(guard) {
-        Err(kind) => failed(turn, label, kind),
-        Ok(true) => enters(turn, body),
-        Ok(false) => enters(turn, other),
-    }
-}
-
-/// Evaluates the condition of a loop. If it is true, enters the body and then the loop again.
-fn turn_loop<'p>(
+/// Goes on with what comes next after a statement.
+fn take<'p>(
     mut turn: LeafTurn<'p>,
     stmt: &'p Stmt,
-    guard: &Truth,
-    body: &'p [Stmt],
+    next: Next<'p>,
 ) -> Result<(Becomes<'p>, Store), AllocError>
-    requires ready { IsReady turn }
-    requires is_loop { code_of stmt.now.kind ≡ While (truth_of guard.now) (codes_of body.now) }
-    ensures { IfOk result (After turn.entry stmt.entry.now.label (code_of stmt.entry.now.kind)) }
+    requires { IsLoopOf stmt.now.label (code_of stmt.now.kind) (next_of next) }
+    ensures { IfOk result (Comes (becomes_by (next_of next.entry) (flow_of turn.entry.thread.flow)
+        (leaf_in turn.entry)) (store_in turn.entry) turn.entry) }
 {
-    match turn.thread.truth(guard) {
-        Err(kind) => failed(turn, stmt.label, kind),
-        Ok(false) => Ok(going(turn)),
-        Ok(true) => {
+    match next {
+        Next::Nothing => match turn.thread.flow {
+            Flow::On => Ok(going(turn)),
+            Flow::Faulted | Flow::Stopped => Ok(ended(turn)),
+        },
+        Next::Block(block) => enters(turn, block),
+        Next::Iteration {
+            label: _,
+            guard: _,
+            body,
+        } => {
             begin(&mut turn.rest, stmt)?;
             enters(turn, body)
         }
-    }
-}
-
-/// Enters a block in which both sides of a section have names.
-fn split<'p>(
-    mut turn: LeafTurn<'p>,
-    label: Label,
-    section: SectionId,
-    at: &Number,
-    names: (SectionId, SectionId),
-    body: &'p [Stmt],
-) -> Result<(Becomes<'p>, Store), AllocError>
-    requires { IsReady turn }
-    ensures { IfOk result (After turn.entry label (Split section.number (number_of at.now)
-        names.0.number names.1.number (codes_of body.entry.now))) }
-{
-    match turn.thread.sides(section, at) {
-        Err(kind) => failed(turn, label, kind),
-        Ok((left, right)) => {
-            turn.thread.environment.name_window(names.1, right)?;
-            turn.thread.environment.name_window(names.0, left)?;
-            enters(turn, body)
-        }
-    }
-}
-
-/// Evaluates the size of the pieces of a `parts`, whose turns run first.
-fn parts<'p>(
-    mut turn: LeafTurn<'p>,
-    label: Label,
-    pieces: &Pieces,
-    body: &'p [Stmt],
-) -> Result<(Becomes<'p>, Store), AllocError>
-    requires { IsReady turn }
-    ensures { IfOk result (After turn.entry label (Parts pieces.now.section.number
-        (number_of pieces.now.size) pieces.now.piece.number pieces.now.turn.number
-        (codes_of body.entry.now))) }
-{
-    match turn.thread.turns_of(label, pieces, body) {
-        Err(kind) => failed(turn, label, kind),
-        Ok(turns) => {
+        Next::Turns(turns) => {
             let window = turn.thread.environment.window(turns.section);
             begin_turns(&mut turn.rest, turns, window)?;
             Ok(going(turn))
         }
+        Next::Body { body, caller } => calls(turn, body, caller),
+    }
+}
+
+/// Starts a call, in whose environment the leaf is. The caller's environment comes back after it.
+fn calls<'p>(
+    mut turn: LeafTurn<'p>,
+    body: &'p [Stmt],
+    caller: Environment,
+) -> Result<(Becomes<'p>, Store), AllocError>
+    ensures { IfOk result (Comes (becomes_by (Body (codes_of body.entry.now) (environment_of caller))
+        (flow_of turn.entry.thread.flow) (leaf_in turn.entry)) (store_in turn.entry) turn.entry) }
+{
+    let body = block_alone(turn.plan.alloc, body)?;
+    let rest = std::mem::replace(&mut turn.rest, body);
+    turn.callers.push(Caller {
+        environment: caller,
+        rest,
+    })?;
+    Ok(going(turn))
+}
+
+/// Returns an environment without room.
+fn no_room(alloc: Global) -> Environment {
+    Environment {
+        scalars: Vec::new(alloc),
+        windows: Vec::new(alloc),
     }
 }
 
@@ -246,38 +236,6 @@ fn next_turn<'p>(
             begin_turns(&mut turn.rest, turns.after_next(), window)?;
             turn.thread.begin_turn(turns, piece)?;
             enters(turn, turns.body)
-        }
-    }
-}
-
-/// Evaluates the scalar arguments from left to right, then enters the body with the windows of the
-/// sections.
-fn call<'p>(
-    mut turn: LeafTurn<'p>,
-    label: Label,
-    procedure: ProcedureId,
-    values: &[Number],
-    sections: &[SectionId],
-) -> Result<(Becomes<'p>, Store), AllocError>
-    requires { IsReady turn }
-    ensures { IfOk result (After turn.entry label (Call procedure.number (map number_of values.now)
-        (map section_of sections.now))) }
-{
-    let plan = turn.plan;
-    let values = match turn.thread.numbers(Vec::new(plan.alloc), values)? {
-        Err(kind) => return failed(turn, label, kind),
-        Ok(values) => values,
-    };
-    match plan.program.procedures.get(procedure.number) {
-        None => Ok(going(turn)),
-        Some(procedure) => {
-            let windows = Vec::new(plan.alloc);
-            let entry = turn.thread.entry(procedure, values, windows, sections)?;
-            let body = block_alone(plan.alloc, &procedure.body)?;
-            let environment = std::mem::replace(&mut turn.thread.environment, entry);
-            let rest = std::mem::replace(&mut turn.rest, body);
-            turn.callers.push(Caller { environment, rest })?;
-            Ok(going(turn))
         }
     }
 }
@@ -375,20 +333,6 @@ fn ended<'p>(turn: LeafTurn<'p>) -> (Becomes<'p>, Store)
     let alloc = turn.plan.alloc;
     let (leaf, store) = apart(turn);
     (Becomes::Single(done(alloc, leaf)), store)
-}
-
-/// Ends the leaf with a fault.
-fn failed<'p>(
-    mut turn: LeafTurn<'p>,
-    label: Label,
-    kind: FaultKind,
-) -> Result<(Becomes<'p>, Store), AllocError>
-    ensures { IfOk result (Comes (Single (failed_leaf label kind (leaf_in turn.entry)))
-        (store_in turn.entry) turn.entry) }
-{
-    let plan = turn.plan;
-    turn.thread.fault(plan, label, kind)?;
-    Ok(ended(turn))
 }
 
 /// Returns the leaf and the store.

@@ -23,6 +23,7 @@ pub mod PlainTurns
 pub mod ReachedTasks
 pub mod Roots
 pub mod RunSteps
+pub mod Leading
 pub mod RunTops
 pub mod RunsGoOn
 pub mod SettledResults

@@ -34,26 +34,6 @@ pub stacked-pushed : (gs hs : List rFrame) (g : rFrame) (f : Frame Own) (fs : Li
     → Stacked gs fs → Stacked hs (f ∷ fs)
 stacked-pushed gs hs g f fs e shows stacked = (gs, g, e, shows, stacked)
 
--- ---- values
-
-module _ {X A : Type 0} (l : ℕ) (fs : List (Frame X)) (st : State X) (go : A → Standing X) where
-  pub value_ok : (v : A) (r : Valued A) → Ok v ≡ r → by_value l r go fs st ≡ go v
-  value_ok v r e = ap (λ r. by_value l r go fs st) (sym e)
-
-  pub value_faults : (k : FaultKind) (r : Valued A) → Err k ≡ r → by_value l r go fs st ≡ record { frames = fs; state = fault l k st }
-  value_faults k r e = ap (λ r. by_value l r go fs st) (sym e)
-
--- two values, one after the other
-module _ {X A B : Type 0} (l : ℕ) (fs : List (Frame X)) (st : State X) (go : B → Standing X) (second : A → Valued B) where
-  abbrev by_both : Valued A → Standing X
-  by_both r = by_value l r (λ v. by_value l (second v) go fs st) fs st
-
-  pub both_fault : (k : FaultKind) (r : Valued A) → Err k ≡ then_try r second → by_both r ≡ record { frames = fs; state = fault l k st }
-  both_fault k (Ok x) e = value_faults l fs st go k (second x) e
-  both_fault k (Err f) e =
-      let same : k ≡ f = cc in
-      ap (λ (j : FaultKind). record { frames = fs; state = fault l j st }) (sym same)
-
 -- ---- statements of one step
 
 module _ (x : Own) (l : ℕ) where
@@ -80,7 +60,7 @@ module _ (x : Own) (l : ℕ) where
   primitive_own p (Print es) st = value_own (numbers_at st es) _ _ (λ vs st. refl) st
   primitive_own p (Raise e) st = value_own (number_at st e) _ _ (λ v st. refl) st
 
-abbrev shape : TaskMemory → Place → Bool
+abbrev pub shape : TaskMemory → Place → Bool
 shape m = owned_by m.holdings
 
 -- ---- the tasks that a run represents
@@ -94,32 +74,6 @@ shows_kept old t fs x kept shows = record {
   pending = shows.pending;
   few = omega (arith, shows.few, kept.steps, kept.spawned);
 }
-
--- a statement that faults
-pub turns_fault : (old : Run) (t : Thread TaskMemory) (l : ℕ) (k : FaultKind) (go : Going_on)
-    → ((fs : List (Frame Own)) (x : Own) → go fs (with_own x (state_of old.thread))
-    ≡ record { frames = fs; state = fault l k (with_own x (state_of old.thread)) })
-    → state_of t ≡ fault l k (state_of old.thread) → KeepsTask shape old.thread t → Turns go old (record old { thread = t })
-turns_fault old t l k go is state kept = record {
-  plan = refl;
-  nest = kept.nest;
-  stands = λ fs x shows. subst (IsAt (record old { thread = t })) (sym (is fs x)) (record {
-    own = x;
-    shows = shows_kept old t fs x kept shows;
-    is = ap (with_own x) state;
-  });
-}
-
--- a statement that faults, if a thread has recorded the fault
-pub acts_faulted : {T E : Type 0} (r : Result T E) (old : Run) (t : Thread TaskMemory) (l : ℕ) (k : FaultKind) (c : Code)
-    → ((needs : Codes → Needs) (close : State Own → Option Settled) (fs : List (Frame Own)) (x : Own)
-    → acted (program old.plan.program.now) (own_rules needs old.thread.nest close) l c fs (with_own x (state_of old.thread))
-    ≡ record { frames = fs; state = fault l k (with_own x (state_of old.thread)) })
-    → OnOk r (state_of t ≡ fault l k (state_of old.thread)) → OnOk r (KeepsTask shape old.thread t)
-    → OnOk r (Acts l c old (record old { thread = t }))
-acts_faulted r old t l k c is same keeps =
-    on_ok_both r (λ state kept needs close.
-    turns_fault old t l k (acted (program old.plan.program.now) (own_rules needs old.thread.nest close) l c) (is needs close) state kept) same keeps
 
 -- ---- recorded steps
 

@@ -1,6 +1,7 @@
 pub mod Apart
 pub mod Copies
 pub mod Frames
+pub mod Leading
 pub mod Given
 pub mod Holds
 pub mod Jobs

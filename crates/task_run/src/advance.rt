@@ -32,6 +32,7 @@ use holdings::error::HoldError;
 use holdings::holdings::Holdings;
 use plain_code::pieces::ProgramCode;
 use sections::window::Window;
+use statement_steps::control::Called;
 use statement_steps::flow::Flow;
 use statement_steps::thread::Thread;
 use statement_steps::turns::TurnsToCome;
@@ -192,7 +193,8 @@ impl<'p> Run<'p> {
             return Ok(Done::Gone);
         }
         if self.thread.takes_step() {
-            self.turn_loop(label, guard, body)?;
+            let next = self.thread.turn_loop(self.plan, label, guard, body)?;
+            self.take(next)?;
             Ok(Done::Gone)
         } else {
             Ok(Done::Exceeded)
@@ -252,20 +254,23 @@ impl<'p> Run<'p> {
                 Ok(Done::Gone)
             }
             StmtKind::If { guard, body, other } => {
-                self.choose(label, guard, body, other)?;
+                let next = self.thread.choose(self.plan, label, guard, body, other)?;
+                self.take(next)?;
                 Ok(Done::Gone)
             }
             StmtKind::While { guard, body } => {
-                self.turn_loop(label, guard, body)?;
+                let next = self.thread.turn_loop(self.plan, label, guard, body)?;
+                self.take(next)?;
                 Ok(Done::Gone)
             }
             StmtKind::Split { sides, body } => {
-                let both = (sides.left, sides.right);
-                self.split(label, sides.section, &sides.at, both, body)?;
+                let next = self.thread.split(self.plan, label, sides, body)?;
+                self.take(next)?;
                 Ok(Done::Gone)
             }
             StmtKind::Parts { pieces, body } => {
-                self.begin_turns(label, pieces, body)?;
+                let next = self.thread.begin_turns(self.plan, label, pieces, body)?;
+                self.take(next)?;
                 Ok(Done::Gone)
             }
             StmtKind::Call {
@@ -273,7 +278,10 @@ impl<'p> Run<'p> {
                 values,
                 sections,
             } => {
-                self.call(label, *procedure, values, sections, rooms)?;
+                let called = Called::of(self.plan, *procedure, values, sections);
+                let room = rooms.room_for(called.procedure)?;
+                let next = self.thread.call(self.plan, label, called, room)?;
+                self.take(next)?;
                 Ok(Done::Gone)
             }
             StmtKind::Async { body } => self.spawn(needed, label, body, rooms),

@@ -2,14 +2,13 @@
 
 ghost use Rattle.std.specs.Prelude.{ℕ, ◌≡◌, ◌+◌, ◌-◌, ◌<◌, ◌++◌, [], ◌∷◌, IfOk, OnOk, Some, map};
 ghost use Rattle.sections.specs.Place.{piece_of};
-ghost use Rattle.sections.specs.Translation.{section as section_of, window as window_of};
-ghost use Rattle.types.specs.Code.{Call, Finish, If, Parts, Rescue, Split, While};
-ghost use Rattle.types.specs.Run.{procedure_of as numbered};
-ghost use Rattle.types.specs.Translation.{program as program_of, truth as truth_of, number as number_of};
+ghost use Rattle.sections.specs.Translation.{window as window_of};
+ghost use Rattle.types.specs.Code.{Finish, Rescue};
 ghost use Rattle.types.specs.Translation.{codes as codes_of, environment as environment_of};
 ghost use Rattle.types.specs.Translation.{fault as fault_of};
 ghost use Rattle.statement_steps.specs.Turns.{begun as begun_turns};
 ghost use Rattle.task_run.specs.Frames.{handled};
+ghost use Rattle.task_run.specs.Leading.{frames_of};
 ghost use Rattle.task_run.specs.Reached.{begun};
 ghost use Rattle.task_run.specs.Standings.{IsAt};
 ghost use Rattle.task_run.specs.Translation.{contents_of, owned_by, start as start_of};
@@ -21,16 +20,16 @@ use crate::result::Listed;
 use crate::rooms::Rooms;
 use crate::start::Start;
 use holdings::holdings::Holdings;
-use sections::id::SectionId;
 use sections::window::Window;
 use statement_steps::flow::Flow;
+use statement_steps::next::Next;
 use statement_steps::thread::{Plan, Thread};
 use statement_steps::turns::TurnsToCome;
 use std::alloc::AllocError;
 use types::child_number::ChildNumber;
-use types::code::{Label, Number, Pieces, Procedure, Stmt, Truth};
+use types::code::Stmt;
 use types::fault::Fault;
-use types::ids::{ProcedureId, Slot};
+use types::ids::Slot;
 use types::value::Environment;
 
 /// A task between two turns, with what it holds.
@@ -127,93 +126,38 @@ impl<'p> Run<'p> {
         }
     }
 
-    /// Enters one of two blocks, depending on the condition.
-    pub(crate) fn choose(
-        &mut self,
-        label: Label,
-        guard: &Truth,
-        body: &'p [Stmt],
-        other: &'p [Stmt],
-    ) -> Result<(), AllocError>
-        ensures { OnOk result (Acts label (If (truth_of guard.now)
-            (codes_of body.entry.now) (codes_of other.entry.now)) self.old self.new) }
+    /// Puts what comes next on top of the frames.
+    #[inline(always)]
+    pub(crate) fn take(&mut self, next: Next<'p>) -> Result<(), AllocError>
+        ensures frames { OnOk result (self.new.frames.items
+            ≡ self.old.frames.items ++ frames_of next.entry) }
+        ensures rest { OnOk result (self.new ≡ record self.old { frames = self.new.frames }) }
     {
-        match self.thread.truth(guard) {
-            Err(kind) => self.thread.fault(self.plan, label, kind),
-            Ok(true) => {
-                self.frames.push(TaskFrame::Rest(body))?;
-                Ok(())
+        match next {
+            Next::Nothing => Ok(()),
+            Next::Block(block) => self.push(TaskFrame::Rest(block)),
+            Next::Iteration { label, guard, body } => {
+                self.push(TaskFrame::Again { label, guard, body })?;
+                self.push(TaskFrame::Rest(body))
             }
-            Ok(false) => {
-                self.frames.push(TaskFrame::Rest(other))?;
-                Ok(())
+            Next::Turns(turns) => self.push(TaskFrame::Turns(turns)),
+            Next::Body { body, caller } => {
+                self.push(TaskFrame::EndCall {
+                    environment: caller,
+                })?;
+                self.push(TaskFrame::Rest(body))
             }
         }
     }
 
-    /// Evaluates the condition of a loop. If it is true, the body is next, and then another
-    /// iteration.
-    pub(crate) fn turn_loop(
-        &mut self,
-        label: Label,
-        guard: &'p Truth,
-        body: &'p [Stmt],
-    ) -> Result<(), AllocError>
-        ensures { OnOk result (Acts label (While (truth_of guard.entry.now)
-            (codes_of body.entry.now)) self.old self.new) }
+    /// Puts a frame on top of the others.
+    #[inline(always)]
+    fn push(&mut self, frame: TaskFrame<'p>) -> Result<(), AllocError>
+        ensures frames { OnOk result (self.new.frames.items ≡ self.old.frames.items ++ frame.entry ∷ []) }
+        ensures rest { OnOk result (self.new ≡ record self.old { frames = self.new.frames }) }
     {
-        match self.thread.truth(guard) {
-            Err(kind) => self.thread.fault(self.plan, label, kind),
-            Ok(false) => Ok(()),
-            Ok(true) => {
-                self.frames.push(TaskFrame::Again { label, guard, body })?;
-                self.frames.push(TaskFrame::Rest(body))?;
-                Ok(())
-            }
-        }
-    }
-
-    /// Enters a block in which both sides of a section have names.
-    pub(crate) fn split(
-        &mut self,
-        label: Label,
-        section: SectionId,
-        at: &Number,
-        names: (SectionId, SectionId),
-        body: &'p [Stmt],
-    ) -> Result<(), AllocError>
-        ensures { OnOk result (Acts label (Split section.number (number_of at.now)
-            names.0.number names.1.number (codes_of body.entry.now)) self.old self.new) }
-    {
-        match self.thread.sides(section, at) {
-            Err(kind) => self.thread.fault(self.plan, label, kind),
-            Ok((left, right)) => {
-                self.thread.environment.name_window(names.1, right)?;
-                self.thread.environment.name_window(names.0, left)?;
-                self.frames.push(TaskFrame::Rest(body))?;
-                Ok(())
-            }
-        }
-    }
-
-    /// Evaluates the size of the pieces of a `parts`. Its turns are next.
-    pub(crate) fn begin_turns(
-        &mut self,
-        label: Label,
-        pieces: &Pieces,
-        body: &'p [Stmt],
-    ) -> Result<(), AllocError>
-        ensures { OnOk result (Acts label (Parts pieces.now.section.number
-            (number_of pieces.now.size) pieces.now.piece.number pieces.now.turn.number
-            (codes_of body.entry.now)) self.old self.new) }
-    {
-        match self.thread.turns_of(label, pieces, body) {
-            Err(kind) => self.thread.fault(self.plan, label, kind),
-            Ok(turns) => {
-                self.frames.push(TaskFrame::Turns(turns))?;
-                Ok(())
-            }
-        }
+        self.frames.push(frame)?;
+        Ok(())
     }
 
     /// Enters the block of a turn, whose step has been taken, with its piece. The later turns are
@@ -231,33 +175,6 @@ impl<'p> Run<'p> {
         self.thread.begin_turn(turns, piece)?;
         self.frames.push(TaskFrame::Turns(turns.after_next()))?;
         self.frames.push(TaskFrame::Rest(turns.body))?;
-        Ok(())
-    }
-
-    /// Evaluates the scalar arguments from left to right. Then it enters the body with the windows
-    /// of the sections.
-    pub(crate) fn call(
-        &mut self,
-        label: Label,
-        procedure: ProcedureId,
-        values: &[Number],
-        sections: &[SectionId],
-        rooms: &mut Rooms<'p>,
-    ) -> Result<(), AllocError>
-        ensures { OnOk result (Acts label (Call procedure.number
-            (map number_of values.now) (map section_of sections.now)) self.old self.new) }
-    {
-        let (procedure, body) = procedure_of(self.plan, procedure);
-        let room = rooms.room_for(procedure)?;
-        let Environment { scalars, windows } = room;
-        let values = match self.thread.numbers(scalars, values)? {
-            Err(kind) => return self.thread.fault(self.plan, label, kind),
-            Ok(values) => values,
-        };
-        let entry = self.thread.entry(procedure, values, windows, sections)?;
-        let environment = std::mem::replace(&mut self.thread.environment, entry);
-        self.frames.push(TaskFrame::EndCall { environment })?;
-        self.frames.push(TaskFrame::Rest(body))?;
         Ok(())
     }
 
@@ -346,16 +263,5 @@ impl<'p> Run<'p> {
                 Ok(())
             }
         }
-    }
-}
-
-/// Returns the procedure with this number and its body. A missing procedure does nothing.
-fn procedure_of<'p>(plan: Plan<'p>, procedure: ProcedureId) -> (&'p Procedure, &'p [Stmt])
-    ensures { codes_of result.1.now
-        ≡ (numbered (program_of plan.entry.program.now) procedure.number).body }
-{
-    match plan.program.procedures.get(procedure.number) {
-        Some(procedure) => (procedure, &procedure.body),
-        None => (&plan.program.main, &[]),
     }
 }
