@@ -18,7 +18,6 @@ use files::file_source::FileSource;
 use printing::emit::append;
 use std::alloc::Global;
 use std::io::Write;
-use std::thread::Threads;
 
 /// The reason why a command failed, and the explanation after its line.
 #[derive(Drop)]
@@ -39,14 +38,15 @@ impl Refusal {
         }
     }
 
-    /// Explains a failure, if it should be explained and there is memory for it.
-    pub fn explained<R: Threads + Sync, F: FileSource>(
-        rt: &R,
+    /// Explains a failure, if it should be explained and there is memory for it. `known` is its
+    /// explanation, if it was already made.
+    pub fn explained<F: FileSource>(
         alloc: Global,
         files: &mut F,
         request: Request<'_>,
         source: &ProgramSource,
         failure: Failure,
+        known: Option<String>,
     ) -> Refusal
         ensures failure { result.failure ≡ failure }
         ensures more { source.now.more.explains ≡ false → string_bytes result.more ≡ [] }
@@ -55,8 +55,10 @@ impl Refusal {
         if !source.more.explains {
             return Refusal::bare(alloc, failure);
         }
-        let text = source.text.as_str();
-        let more = explanation(rt, alloc, files, request, text, &failure);
+        let more = match known {
+            Some(known) => Ok(known),
+            None => explanation(alloc, files, request, source.text.as_str(), &failure),
+        };
         Refusal {
             failure,
             more: said(alloc, more, source.paint),

@@ -21,7 +21,7 @@ pub(crate) fn code_of(failure: &Failure) -> Option<&'static str>
     match failure {
         Failure::Syntax(error) => Some(error.code()),
         Failure::Types(error) => Some(error.code()),
-        Failure::Race { .. } => Some("C1"),
+        Failure::Race(_) => Some("C1"),
         Failure::NoMemoryInCheck => Some("C2"),
         Failure::Input(error) => Some(error.code()),
         Failure::Run(error) => Some(error.code()),
@@ -79,9 +79,16 @@ pub fn message_of(alloc: Global, failure: &Failure) -> Result<String, AllocError
         return Err(AllocError);
     }
     let _feed = bytes.pop();
+    text_in(bytes)
+}
+
+/// Returns the text in the bytes of a message. It isn't specified that a message is text, but it is
+/// built from texts.
+pub(crate) fn text_in(bytes: Vec<u8>) -> Result<String, AllocError>
+    ensures { IfOk result (λ text. string_bytes text ≡ bytes.items) }
+{
     match String::from_utf8(bytes) {
         Ok(text) => Ok(text),
-        // It isn't specified that a message is text; it is built from texts.
         Err(_) => Err(AllocError),
     }
 }

@@ -1,0 +1,18 @@
+use Rattle.printing.proofs.Appending.{fails, begins_longer, then_begins, then_writes}
+use Rattle.failures.proofs.message.emit_access.Goals as goal
+
+pub returns-in_err-emit_text : goal.returns-in_err-emit_text
+returns-in_err-emit_text g c =
+    fails _ c.from_residual.ensures.0 (begins_longer _ _ _ _ c.in_err-emit_text.ensures)
+
+pub returns-in_err-emit_label : goal.returns-in_err-emit_label
+returns-in_err-emit_label g c =
+    fails _ c.from_residual-in_err-emit_label.ensures.0
+    (then_begins _ _ _ _ _ c.in_ok-emit_text.ensures
+    (begins_longer _ _ _ _ c.in_err-emit_label.ensures))
+
+pub returns-in_err-emit_named : goal.returns-in_err-emit_named
+returns-in_err-emit_named g c = ?
+
+pub returns : goal.returns
+returns g c = ?
