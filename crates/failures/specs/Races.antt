@@ -26,9 +26,12 @@ section_name g s = unwrap_or (slice_get g.section_names s) []
 abbrev pub section_text : Procedure → Access → List ℕ
 section_text g a = access_text a.label a.write (section_name g a.section)
 
--- `C1 race in main: 2 write a, 3 read a`: the procedure that has the race, and both accesses in its names
-abbrev pub race_text : Program → Race → List ℕ
-race_text p r =
-    let g = told_procedure p r.procedure in
+-- `C1 race in main: 2 write a, 3 read a`: a procedure, and both accesses of a race in its names
+abbrev pub race_line : Procedure → Race → List ℕ
+race_line g r =
     (codes "C1 race in " ++ g.name)
     ++ ((codes ": " ++ section_text g r.first) ++ (codes ", " ++ section_text g r.second))
+
+-- the line of a race of a program
+abbrev pub race_text : Program → Race → List ℕ
+race_text p r = race_line (told_procedure p r.procedure) r

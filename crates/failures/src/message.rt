@@ -7,7 +7,7 @@ ghost use Rattle.race_checker.specs.Translation.{race as race_of};
 ghost use Rattle.printing.specs.Appending.{Writes};
 ghost use Rattle.trace_text.specs.Reading.{trace_error_text};
 ghost use Rattle.failures.specs.Messages.{failure_text};
-ghost use Rattle.failures.specs.Races.{race_text, section_text};
+ghost use Rattle.failures.specs.Races.{race_line, race_text, section_text};
 
 use crate::failure::Failure;
 use crate::names::{kind, procedure_of, section_name};
@@ -60,7 +60,14 @@ pub fn emit_race<W: Write>(err: &mut W, code: &Program, race: Race) -> Result<()
     ensures { Writes (W.contents err.old) (W.contents err.new) result
         (race_text (program code.now) (race_of race)) }
 {
-    let procedure = procedure_of(code, race.procedure);
+    emit_race_of(err, procedure_of(code, race.procedure), race)
+}
+
+/// Writes the line of a race of a procedure.
+fn emit_race_of<W: Write>(err: &mut W, procedure: &Procedure, race: Race) -> Result<(), EmitError>
+    ensures { Writes (W.contents err.old) (W.contents err.new) result
+        (race_line (plain_procedure procedure.now) (race_of race)) }
+{
     emit_named(err, "C1 race in ", procedure.name.as_str())?;
     emit_access(err, ": ", procedure, race.first)?;
     emit_access(err, ", ", procedure, race.second)

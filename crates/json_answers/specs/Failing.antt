@@ -29,7 +29,8 @@ pub record ShowsRace (file : List ℕ) (places : List TextPlace) (code : Program
   pub reason : Reason
   pub told_is : told ≡ line (race_json file places code race witness reason)
 
--- the race of a failure, at statements of the text. The failure says that it is the least race of the text's program
+-- the race of a failure, with the positions of the text's statements. `HasRace` states that it is the least race of the
+-- text's program
 pub record TellsRace (file text : List ℕ) (found : LeastRace) (told : List ℕ) : Type 0 where
   pub places : List TextPlace
   pub begun : ArePlaces text places

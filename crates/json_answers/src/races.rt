@@ -17,7 +17,6 @@ use crate::line::line_of;
 use crate::names::{kind_of, procedure_in, section_name};
 use crate::refusals::{Why, why_of};
 use crate::text_places::{column_in, line_in, place_at};
-use crate::told::text_in;
 use crate::witnesses::witness_value;
 use effects::access::Access;
 use failures::message::emit_race;
@@ -152,5 +151,9 @@ fn message_of_race(alloc: Global, code: &Program, race: Race) -> Result<String, 
     if emit_race(&mut bytes, code, race).is_err() {
         return Err(AllocError);
     }
-    text_in(bytes)
+    match String::from_utf8(bytes) {
+        Ok(text) => Ok(text),
+        // It isn't specified that the line is text; it is built from texts.
+        Err(_) => Err(AllocError),
+    }
 }

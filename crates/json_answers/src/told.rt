@@ -79,16 +79,9 @@ pub fn message_of(alloc: Global, failure: &Failure) -> Result<String, AllocError
         return Err(AllocError);
     }
     let _feed = bytes.pop();
-    text_in(bytes)
-}
-
-/// Returns the text in the bytes of a message. It isn't specified that a message is text, but it is
-/// built from texts.
-pub(crate) fn text_in(bytes: Vec<u8>) -> Result<String, AllocError>
-    ensures { IfOk result (λ text. string_bytes text ≡ bytes.items) }
-{
     match String::from_utf8(bytes) {
         Ok(text) => Ok(text),
+        // It isn't specified that a message is text; it is built from texts.
         Err(_) => Err(AllocError),
     }
 }

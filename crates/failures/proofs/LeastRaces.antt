@@ -1,0 +1,13 @@
+-- The least race of a program has a witness.
+use Rattle.std.proofs.Common.{◌≡◌, Option, None, subst}
+use Rattle.std.proofs.Math.Logic.{∥∥₁_elim}
+use mathlib.Core.HLevel.{⊥_prop}
+use Rattle.std.specs.Prelude.{IsSome}
+use Rattle.types.specs.Code.{Program}
+use Rattle.race_checker.specs.Races.{IsLeastRace, IsRace, Race}
+use Rattle.witness.specs.declared.witness.Witness.{Witness}
+
+-- it isn't true that none was found
+pub is_found : (p : Program) (r : Race) (found : Option Witness) → ∥ IsLeastRace p r ∥₁ → (IsRace p r → IsSome found)
+    → found ≡ None → ⊥
+is_found p r found least some none = ∥∥₁_elim least ⊥_prop (λ (l : IsLeastRace p r). subst IsSome none (some l.among))
