@@ -16,7 +16,7 @@ use failures::failure::Failure;
 use failures::message::emit_message;
 use files::file_source::FileSource;
 use printing::emit::append;
-use std::alloc::Global;
+use std::alloc::{AllocError, Global};
 use std::io::Write;
 
 /// The reason why a command failed, and the explanation after its line.
@@ -55,10 +55,8 @@ impl Refusal {
         if !source.more.explains {
             return Refusal::bare(alloc, failure);
         }
-        let more = match known {
-            Some(known) => Ok(known),
-            None => explanation(alloc, files, request, source.text.as_str(), &failure),
-        };
+        let text = source.text.as_str();
+        let more = explanation_of(alloc, files, request, text, &failure, known);
         Refusal {
             failure,
             more: said(alloc, more, source.paint),
@@ -102,5 +100,22 @@ impl Refusal {
             }
             Err(_) => status,
         }
+    }
+}
+
+/// Returns the explanation of a failure: the known one, if it was already made.
+fn explanation_of<F: FileSource>(
+    alloc: Global,
+    files: &mut F,
+    request: Request<'_>,
+    text: &str,
+    failure: &Failure,
+    known: Option<String>,
+) -> Result<String, AllocError>
+    ensures { F.held files.new ≡ F.held files.old }
+{
+    match known {
+        Some(known) => Ok(known),
+        None => explanation(alloc, files, request, text, failure),
     }
 }
