@@ -1,8 +1,7 @@
 -- From a race that was found to the failure that keeps it.
-use Rattle.std.proofs.Common.{◌≡◌, ◌∙◌, ap, subst, sym, Result, Ok, Err, List, ℕ}
+use Rattle.std.proofs.Common.{◌≡◌, ◌∙◌, subst, sym, Result, Ok, Err, List, ℕ}
 use Rattle.std.specs.Prelude.{IfErr}
 use Rattle.shared_lemmas.proofs.Results.{ok_is_no_error}
-use Rattle.types.specs.Code.{Program}
 use Rattle.types.specs.Typed.{code_of}
 use Rattle.types.specs.declared.typed.Typed.{Typed}
 use Rattle.race_checker.specs.Races.{IsLeastRace}
