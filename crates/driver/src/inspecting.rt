@@ -11,7 +11,7 @@ use crate::performed::Performed;
 use commands::question::Question;
 use failures::failure::Failure;
 use files::file_source::FileSource;
-use json_answers::failed::explained_line;
+use json_answers::failed::{ExplainedLine, explained_line};
 use json_answers::inspecting::inspected;
 use json_answers::object_line::ObjectLine;
 use json_answers::running::serial_told;
@@ -102,8 +102,9 @@ fn described<F: FileSource>(
         Ok(told) => Ok(told),
         Err(failure) => {
             let told = explained_line(alloc, files, request, text, &failure)?;
+            let ExplainedLine { line, .. } = told;
             Ok(ObjectLine {
-                line: told.line,
+                line,
                 status: failure.status(),
             })
         }

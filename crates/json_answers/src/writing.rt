@@ -5,7 +5,7 @@ ghost use Rattle.std.specs.String.{string_bytes};
 ghost use Rattle.printing.specs.Appending.{Writes};
 ghost use Rattle.json_answers.specs.Failing.{IsToldAsObject, TellsFailure};
 
-use crate::failed::{explained_line, refusal_line};
+use crate::failed::{ExplainedLine, explained_line, refusal_line};
 use crate::object_line::ObjectLine;
 use crate::refused_program::RefusedProgram;
 use command_line::request::Request;
@@ -62,9 +62,10 @@ pub fn tell_explained<F: FileSource, O: Write>(
 {
     match explained_line(alloc, files, request, text, failure) {
         Ok(told) => {
-            let _ = append(out, told.line.as_bytes());
+            let ExplainedLine { line, explanation } = told;
+            let _ = append(out, line.as_bytes());
             let _ = out.flush();
-            Some(told.explanation)
+            Some(explanation)
         }
         Err(AllocError) => None,
     }
