@@ -44,6 +44,7 @@ fi
 part 'exit statuses and small stacks' sh tests/program.sh
 part 'at a terminal' python3 tests/terminal.py
 part 'threads' sh tests/threads.sh
+part 'races found once' sh tests/once.sh
 part 'rows of command lines' python3 tests/rows.py
 part 'children first' python3 tests/child_first.py
 part 'cookbook' sh tests/cookbook.sh

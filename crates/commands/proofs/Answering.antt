@@ -172,7 +172,7 @@ module _ (c : Command) (looks : LooksForRaces c) (s : Settings) (held : Held) (t
   pub not_accepted_explained : (f : Failure) → TellsNotAccepted text f → Explains c s held text f
   not_accepted_explained (Syntax e) told = told
   not_accepted_explained (Types e) told = (rules_tested c looks, told)
-  not_accepted_explained (Race procedure first second) told = (looks, told)
+  not_accepted_explained (Race found) told = (looks, told)
   not_accepted_explained NoMemoryInCheck told = looks
   not_accepted_explained _ told = absurd told
 

@@ -22,6 +22,7 @@ use Rattle.types.specs.Resolution.{resolution}
 use Rattle.types.specs.Rules.{BreaksNoRule, errors_of}
 use Rattle.types.specs.Told.{Told}
 use Rattle.types.specs.TreeRuns.{Explored, NoSuchChoice}
+use Rattle.types.specs.Typed.{code_of}
 use Rattle.types.specs.declared.error.TypeError.{TypeError}
 use Rattle.cost.specs.Accounts.{Account, account_of, span_by_label}
 use Rattle.cost.specs.Costs.{cost_of, tally_of}
@@ -30,7 +31,8 @@ use Rattle.cost.specs.declared.cost.Cost.{Cost as Numbers}
 use Rattle.parallel_relation.specs.Pairs.{AreListed}
 use Rattle.parallel_relation.specs.Together.{LabelsMeet}
 use Rattle.race_checker.specs.Clash.{IsAccepted}
-use Rattle.race_checker.specs.Races.{IsLeastRace, Race as ProgramRace}
+use Rattle.race_checker.specs.Races.{IsLeastRace}
+use Rattle.race_checker.specs.Translation.{race as race_of}
 use Rattle.printing.specs.Appending.{AppendsBeginning}
 use Rattle.finish_scope.specs.RunErrors.{IsRunCause}
 use Rattle.commands.specs.Chosen.{ComesTo, HasLeaves}
@@ -43,12 +45,12 @@ use Rattle.commands.specs.declared.telling.About.{About}
 use Rattle.commands.specs.declared.telling.About.TheVariants.{Counts, Lines}
 use Rattle.files.specs.Choosing.{TellsNoChoices}
 use Rattle.printing.specs.ExploredText.{explored_text, explored_status}
-use Rattle.failures.specs.Failures.{told_procedure, IsToldAs}
 use Rattle.files.specs.Held.{Held, BeginsWith, TellsNoInput}
 use Rattle.printing.specs.Labels.{accepted_text, labels_in, pair_text}
 use Rattle.printing.specs.OutcomeText.{outcome_text, status_of}
 use Rattle.command_line.specs.Requests.{Settings}
 use Rattle.failures.specs.declared.failure.Failure.{Failure}
+use Rattle.failures.specs.declared.least_race.LeastRace.{LeastRace}
 use Rattle.failures.specs.declared.failure.Failure.TheVariants.{CannotRead, NotUtf8, Syntax, Types, Race}
 use Rattle.failures.specs.declared.failure.Failure.TheVariants.{NoMemoryInCheck, Input, CannotWriteOutput}
 use Rattle.failures.specs.declared.failure.Failure.TheVariants.{NoMemory, ChoicesNotUnderstood, NoLeaf}
@@ -359,12 +361,9 @@ TellsUnspelled text (Syntax e) = IsErrorOfText text e
 TellsUnspelled text _ = ⊥
 
 -- C1: the text's program has a race, and the least one is reported
-pub record HasRace (text procedure first second : List ℕ) : Type 0 where
-  pub code : Program
-  pub is_code : IsCodeOf text code
-  pub race : ProgramRace
-  pub least : IsLeastRace code race
-  pub told : IsToldAs (told_procedure code race.procedure) race procedure first second
+pub record HasRace (text : List ℕ) (found : LeastRace) : Type 0 where
+  pub is_code : IsCodeOf text (code_of found.typed)
+  pub least : IsLeastRace (code_of found.typed) (race_of found.race)
 
 -- the command looks for races
 abbrev pub LooksForRaces : Command → Type 0
@@ -397,8 +396,7 @@ LooksForRaces CostByProcedure = ⊥
 abbrev pub TellsNotAccepted : (text : List ℕ) → Failure → Type 0
 TellsNotAccepted text (Syntax e) = TellsNoCode text (Syntax e)
 TellsNotAccepted text (Types e) = TellsNoCode text (Types e)
-TellsNotAccepted text (Race procedure first second) =
-    HasRace text (string_bytes procedure) (string_bytes first) (string_bytes second)
+TellsNotAccepted text (Race found) = HasRace text found
 TellsNotAccepted text NoMemoryInCheck = Unit {0}
 TellsNotAccepted text _ = ⊥
 
@@ -456,8 +454,7 @@ Explains c s held text (CannotRead name) =
 Explains c s held text (NotUtf8 name) = LacksInput c s held text (NotUtf8 name)
 Explains c s held text (Syntax e) = TellsNoCode text (Syntax e)
 Explains c s held text (Types e) = TestsRules c × BreaksRule text e
-Explains c s held text (Race procedure first second) =
-    LooksForRaces c × HasRace text (string_bytes procedure) (string_bytes first) (string_bytes second)
+Explains c s held text (Race found) = LooksForRaces c × HasRace text found
 Explains c s held text NoMemoryInCheck = LooksForRaces c
 Explains c s held text (Input e) = LacksInput c s held text (Input e)
 Explains c s held text (RunFailed e) = FailsAsTasks c s held text (IsRunCause s.spread.tasks (IsTraced s) e)

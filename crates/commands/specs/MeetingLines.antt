@@ -5,7 +5,7 @@ use Rattle.effects.specs.Effects.{accesses}
 use Rattle.effects.specs.Summarized.{body_of}
 use Rattle.parallel_relation.specs.Order.{AreMeetings, Meeting}
 use Rattle.parallel_relation.specs.Together.{Together}
-use Rattle.failures.specs.Failures.{section_text, told_procedure}
+use Rattle.failures.specs.Races.{section_text, told_procedure}
 
 -- the line of two accesses of a procedure, each as in the message of a race: `main: 2 write a, 5 write a`
 abbrev pub meeting_line : Procedure → Meeting → List ℕ

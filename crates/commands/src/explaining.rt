@@ -4,20 +4,17 @@ ghost use Rattle.std.specs.Prelude.{◌≡◌, ◌≤◌, [], IfOk};
 ghost use Rattle.std.specs.String.{string_bytes};
 
 use crate::misfit::input_explained;
-use crate::programs::typed_of;
 use crate::question::Question;
 use crate::unchosen::{choices_explained, no_leaf_explained, open_explained};
 use crate::unlaid::layout_explained;
 use crate::unread::{reread_explained, unreadable_explained, unwritten_explained};
 use command_line::request::{Command, Request, RunOptions};
-use excerpts::heading::Heading;
-use explanations::races::explained_race;
 use explanations::syntax_errors::explained_syntax;
 use explanations::told::{explained, push_races};
 use failures::failure::Failure;
+use failures::least_race::LeastRace;
 use files::file_source::FileSource;
 use finish_scope::run_error::RunError;
-use race_checker::check::{Refused, check};
 use rule_explanations::rule_errors::explained_rule;
 use run_explanations::headings::heading_of;
 use run_explanations::run::{seen_again, surplus_task};
@@ -25,17 +22,15 @@ use run_explanations::runs::explained_run;
 use run_explanations::tasks::explained_tasks;
 use run_explanations::traces::{Wrong, explained_trace};
 use std::alloc::{AllocError, Global};
-use std::thread::Threads;
 use trace_text::error::TraceError;
 use types::budget::{Budget, MOST_NEST, MOST_STEPS};
-use witness::witness::witness_of;
+use witness::witness::Witness;
 
 /// Returns what went wrong, why, and what would be right: in the text of a program, in the file of
 /// its input or of a trace, in its choices, or in its formatting. The request names the file of the
-/// program. If it is for all races, they are listed after the explanation of a race. Returns an
-/// empty text if there is no more to say than the failure's line.
-pub fn explanation<R: Threads + Sync, F: FileSource>(
-    rt: &R,
+/// program. If it is for all races, they are listed after the explanation of a race, for which a
+/// witness is searched. Returns an empty text if there is no more to say than the failure's line.
+pub fn explanation<F: FileSource>(
     alloc: Global,
     files: &mut F,
     request: Request<'_>,
@@ -52,10 +47,9 @@ pub fn explanation<R: Threads + Sync, F: FileSource>(
         Failure::Types(error) => {
             explained_rule(alloc, text, *error, heading_of(file, error.code()))
         }
-        Failure::Race { first, second, .. } => {
-            let accesses = (first.as_str(), second.as_str());
-            let heading = heading_of(file, "C1");
-            race_explained(rt, alloc, text, accesses, heading, request.telling.all)
+        Failure::Race(found) => {
+            let witness = found.witness(alloc)?;
+            race_explanation(alloc, request, text, found, &witness)
         }
         Failure::Input(error) => input_explained(alloc, files, text, settings.input, error),
         Failure::Run(RunError::TooManyTasks(_)) => {
@@ -112,31 +106,19 @@ fn file_explained<F: FileSource>(
     }
 }
 
-/// Explains why the least race of a program is one. It looks for the race again, and lists all
-/// races if `all`. The two accesses are given as the race's line prints them.
-fn race_explained<R: Threads + Sync>(
-    rt: &R,
+/// Explains why the least race of a program is one, by a witness of it. Lists all races of the
+/// program if the request is for all.
+pub fn race_explanation(
     alloc: Global,
+    request: Request<'_>,
     text: &str,
-    accesses: (&str, &str),
-    heading: Heading<'_>,
-    all: bool,
+    found: &LeastRace,
+    witness: &Witness,
 ) -> Result<String, AllocError> {
-    let (first, second) = accesses;
-    let Ok(typed) = typed_of(alloc, text) else {
-        return explained_race(alloc, text, first, second, heading);
-    };
-    match check(rt, alloc, typed) {
-        Err(Refused::Race { race, typed }) => match witness_of(alloc, &typed, race)? {
-            Some(witness) => {
-                let mut told = explained(alloc, text, &typed, race, &witness, heading)?;
-                push_races(alloc, &mut told, text, &typed, all)?;
-                Ok(told)
-            }
-            None => explained_race(alloc, text, first, second, heading),
-        },
-        _ => explained_race(alloc, text, first, second, heading),
-    }
+    let heading = heading_of(request.file, "C1");
+    let mut told = explained(alloc, text, &found.typed, found.race, witness, heading)?;
+    push_races(alloc, &mut told, text, &found.typed, request.telling.all)?;
+    Ok(told)
 }
 
 /// Explains what is wrong with the file of a trace. It reads the file again.

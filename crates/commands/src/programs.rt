@@ -9,6 +9,7 @@ ghost use Rattle.types.specs.Typed.{code_of, program_of as program_in};
 ghost use Rattle.commands.specs.Answers.{IsCodeOf, TellsNoCode, TellsNotAccepted, TellsUnspelled};
 
 use failures::failure::Failure;
+use failures::least_race::LeastRace;
 use race_checker::accepted::Accepted;
 use race_checker::check::Refused;
 use std::alloc::Global;
@@ -32,7 +33,7 @@ pub fn accepted_of<R: Threads + Sync>(
     match race_checker::check::check(rt, alloc, typed) {
         Ok(accepted) => Ok(accepted),
         Err(Refused::OutOfMemory) => Err(Failure::NoMemoryInCheck),
-        Err(Refused::Race { race, typed }) => Err(Failure::of_race(alloc, typed.code(), race)),
+        Err(Refused::Race { race, typed }) => Err(Failure::Race(LeastRace::new(typed, race))),
     }
 }
 

@@ -6,7 +6,6 @@ ghost use Rattle.statement_steps.specs.Watched.{Watches};
 ghost use Rattle.command_line.specs.Requests.{asked_of, settings as settings_of};
 ghost use Rattle.command_words.specs.Orders.{command_of};
 ghost use Rattle.json_answers.specs.Explored.{FailsUnexplored};
-ghost use Rattle.json_answers.specs.Failing.{IsToldAsObject, TellsFailure};
 ghost use Rattle.json_answers.specs.Objects.{FailsEarly, ObjectOf};
 ghost use Rattle.driver.specs.Objects.{FailsEarlyAny, ObjectOfAny};
 ghost use Rattle.driver.specs.Acts.{Leaves};
@@ -17,25 +16,23 @@ ghost use Rattle.driver.specs.Watching.{WatchesDoing, is_watched};
 ghost use Rattle.driver.specs.declared.doing.TextOrder.TheVariants.{Describing};
 
 use crate::loaded::Loaded;
+use crate::performed::Performed;
 use crate::tracing::{Schedule, run_of};
 use command_line::request::Command;
 use command_words::order::{Schedules, Subject};
-use commands::explaining::explanation;
 use commands::question::Question;
 use failures::failure::Failure;
 use files::file_source::FileSource;
 use json_answers::all_ends::all_ends_told;
 use json_answers::exploring::explored_told;
-use json_answers::failed::refusal_line;
 use json_answers::object_line::ObjectLine;
-use json_answers::refused_program::RefusedProgram;
 use json_answers::run_outcomes::outcome_told;
 use json_answers::running::{cost_told, serial_told};
 use json_answers::shares::shares_told;
 use json_answers::telling::{check_told, format_told, list_told, pairs_told};
-use json_answers::writing::{answer_object, tell_refusal};
+use json_answers::writing::{answer_object, tell_explained};
 use statement_steps::watch::Watch;
-use std::alloc::{AllocError, Global};
+use std::alloc::Global;
 use std::io::Write;
 use std::sync::Wait;
 use std::thread::Threads;
@@ -49,11 +46,11 @@ pub(crate) fn told<R: Threads + Wait + Sync, F: FileSource, O: Write, W: Watch>(
     files: &mut F,
     out: &mut O,
     watch: &mut W,
-) -> Result<u8, Failure>
+) -> Performed
     ensures done { DoesWithLoaded (Describing subject) loaded.entry (F.held files.old) (F.held files.new)
-        (O.contents out.old) (O.contents out.new) result }
-    ensures watched { WatchesDoing W.Told (Describing subject) (asked_of loaded.entry.request) result
-        watch.old watch.new }
+        (O.contents out.old) (O.contents out.new) result.done }
+    ensures watched { WatchesDoing W.Told (Describing subject) (asked_of loaded.entry.request)
+        result.done watch.old watch.new }
 {
     let Loaded {
         alloc,
@@ -65,26 +62,32 @@ pub(crate) fn told<R: Threads + Wait + Sync, F: FileSource, O: Write, W: Watch>(
         settings: request.settings,
     };
     match object_of(rt, alloc, subject, question, files, watch) {
-        Ok(told) => answer_object(out, &told),
+        Ok(told) => Performed {
+            done: answer_object(out, &told),
+            explanation: None,
+        },
         Err(failure) => {
-            tell_explained(rt, loaded, files, &failure, out);
-            Err(failure)
+            let explanation = tell_explained(alloc, files, request, text, &failure, out);
+            Performed {
+                done: Err(failure),
+                explanation,
+            }
         }
     }
 }
 
 /// `explore` with one object: writes what it tells about these schedules, or the reason why there is
 /// none.
-pub(crate) fn schedules_told<R: Threads + Sync, F: FileSource, O: Write>(
-    rt: &R,
+pub(crate) fn schedules_told<F: FileSource, O: Write>(
     schedules: Schedules,
     loaded: Loaded<'_>,
     files: &mut F,
     out: &mut O,
-) -> Result<u8, Failure>
+) -> Performed
     ensures { TellsSchedules schedules loaded.entry.request.file.now
         (settings_of loaded.entry.request.settings) loaded.entry.text.now
-        (F.held files.old) (F.held files.new) (O.contents out.old) (O.contents out.new) result }
+        (F.held files.old) (F.held files.new) (O.contents out.old) (O.contents out.new)
+        result.done }
 {
     let Loaded {
         alloc,
@@ -96,10 +99,16 @@ pub(crate) fn schedules_told<R: Threads + Sync, F: FileSource, O: Write>(
         settings: request.settings,
     };
     match schedules_object(alloc, schedules, question, files) {
-        Ok(told) => answer_object(out, &told),
+        Ok(told) => Performed {
+            done: answer_object(out, &told),
+            explanation: None,
+        },
         Err(failure) => {
-            tell_explained(rt, loaded, files, &failure, out);
-            Err(failure)
+            let explanation = tell_explained(alloc, files, request, text, &failure, out);
+            Performed {
+                done: Err(failure),
+                explanation,
+            }
         }
     }
 }
@@ -122,59 +131,6 @@ fn schedules_object<F: FileSource>(
         Schedules::Chosen => explored_told(alloc, question, files),
         Schedules::All(most) => all_ends_told(alloc, question, most, files),
     }
-}
-
-/// Writes the object of a failure, with its explanation, if there is memory for both.
-pub(crate) fn tell_explained<R: Threads + Sync, F: FileSource, O: Write>(
-    rt: &R,
-    loaded: Loaded<'_>,
-    files: &mut F,
-    failure: &Failure,
-    out: &mut O,
-)
-    ensures told { IsToldAsObject
-        (TellsFailure loaded.entry.request.file.now loaded.entry.text.now failure.now)
-        (O.contents out.old) (O.contents out.new) }
-    ensures keeps { F.held files.new ≡ F.held files.old }
-{
-    let Loaded {
-        alloc,
-        request,
-        text,
-    } = loaded;
-    if let Ok(more) = explanation(rt, alloc, files, request, text, failure) {
-        let refused = RefusedProgram {
-            file: request.file,
-            text,
-            explanation: more.as_str(),
-        };
-        tell_refusal(rt, alloc, refused, failure, out);
-    }
-}
-
-/// Returns the line of the object of a failure, with its explanation.
-pub(crate) fn line_explained<R: Threads + Sync, F: FileSource>(
-    rt: &R,
-    loaded: Loaded<'_>,
-    files: &mut F,
-    failure: &Failure,
-) -> Result<String, AllocError>
-    ensures told { IfOk result (λ line. TellsFailure loaded.entry.request.file.now
-        loaded.entry.text.now failure.now (string_bytes line)) }
-    ensures keeps { F.held files.new ≡ F.held files.old }
-{
-    let Loaded {
-        alloc,
-        request,
-        text,
-    } = loaded;
-    let more = explanation(rt, alloc, files, request, text, failure)?;
-    let refused = RefusedProgram {
-        file: request.file,
-        text,
-        explanation: more.as_str(),
-    };
-    refusal_line(rt, alloc, refused, failure)
 }
 
 /// Returns the object of the answer for a text.

@@ -14,6 +14,7 @@ use crate::inspecting::inspected_told;
 use crate::loaded::Loaded;
 use crate::more::More;
 use crate::opening::source_of;
+use crate::performed::Performed;
 use crate::performing::{perform, run_as_tasks};
 use crate::refusal::Refusal;
 use crate::source::ProgramSource;
@@ -84,7 +85,7 @@ pub fn read_and_do<R: Threads + Wait + Sync, F: FileSource, O: Write, T: Termina
     let source = match source_of(alloc, files, request, more, terminal) {
         Ok(source) => source,
         Err(refusal) => {
-            tell_unread(rt, alloc, ordered, files, &refusal.failure, out);
+            tell_unread(alloc, ordered, files, &refusal.failure, out);
             return Err(refusal);
         }
     };
@@ -94,13 +95,12 @@ pub fn read_and_do<R: Threads + Wait + Sync, F: FileSource, O: Write, T: Termina
         request,
         text,
     };
-    let done = do_with(rt, doing, loaded, files, out, terminal);
-    explained(rt, alloc, files, request, &source, done)
+    let performed = do_with(rt, doing, loaded, files, out, terminal);
+    explained(alloc, files, request, &source, performed)
 }
 
 /// Reports why the file of a program gives no text, if the answer should be an object.
-fn tell_unread<R: Threads + Sync, F: FileSource, O: Write>(
-    rt: &R,
+fn tell_unread<F: FileSource, O: Write>(
     alloc: Global,
     ordered: Ordered<'_>,
     files: &mut F,
@@ -114,19 +114,18 @@ fn tell_unread<R: Threads + Sync, F: FileSource, O: Write>(
     let file = ordered.request.file;
     match ordered.doing {
         TextOrder::Answering => {}
-        TextOrder::Describing(_) => tell_unread_file(rt, alloc, file, files, failure, out),
+        TextOrder::Describing(_) => tell_unread_file(alloc, file, files, failure, out),
         TextOrder::Timing => {}
-        TextOrder::TimingAsObject => tell_unread_file(rt, alloc, file, files, failure, out),
+        TextOrder::TimingAsObject => tell_unread_file(alloc, file, files, failure, out),
         TextOrder::Walking(_) => {}
-        TextOrder::Exploring(_) => tell_unread_file(rt, alloc, file, files, failure, out),
-        TextOrder::Inspecting => tell_unread_file(rt, alloc, file, files, failure, out),
+        TextOrder::Exploring(_) => tell_unread_file(alloc, file, files, failure, out),
+        TextOrder::Inspecting => tell_unread_file(alloc, file, files, failure, out),
     }
 }
 
 /// Writes the object that tells why a file gives no text, with its explanation, if there is memory
 /// for both.
-pub(crate) fn tell_unread_file<R: Threads + Sync, F: FileSource, O: Write>(
-    rt: &R,
+pub(crate) fn tell_unread_file<F: FileSource, O: Write>(
     alloc: Global,
     file: &str,
     files: &mut F,
@@ -143,7 +142,7 @@ pub(crate) fn tell_unread_file<R: Threads + Sync, F: FileSource, O: Write>(
             text: "",
             explanation: more.as_str(),
         };
-        tell_refusal(rt, alloc, refused, failure, out);
+        tell_refusal(alloc, refused, failure, out);
     }
 }
 
@@ -155,16 +154,19 @@ fn do_with<R: Threads + Wait + Sync, F: FileSource, O: Write, T: Terminal>(
     files: &mut F,
     out: &mut O,
     terminal: &mut T,
-) -> Result<u8, Failure>
+) -> Performed
     ensures done { DoesWithLoaded doing loaded.entry (F.held files.old) (F.held files.new)
-        (O.contents out.old) (O.contents out.new) result }
+        (O.contents out.old) (O.contents out.new) result.done }
     ensures watched { WatchesDoing T.Told doing (asked_of loaded.entry.request)
-        result terminal.old terminal.new }
+        result.done terminal.old terminal.new }
 {
     match doing {
         TextOrder::Answering => {
             let done = perform(rt, loaded, files, out, terminal);
-            handed_on(out, done)
+            Performed {
+                done: handed_on(out, done),
+                explanation: None,
+            }
         }
         TextOrder::Describing(subject) => told(rt, subject, loaded, files, out, terminal),
         TextOrder::Timing => {
@@ -173,7 +175,10 @@ fn do_with<R: Threads + Wait + Sync, F: FileSource, O: Write, T: Terminal>(
                 settings: loaded.request.settings,
             };
             let done = time(rt, loaded.alloc, question, files, out, terminal);
-            handed_on(out, done)
+            Performed {
+                done: handed_on(out, done),
+                explanation: None,
+            }
         }
         TextOrder::TimingAsObject => time_as_object(rt, loaded, files, out, terminal),
         TextOrder::Walking(seed) => {
@@ -183,28 +188,34 @@ fn do_with<R: Threads + Wait + Sync, F: FileSource, O: Write, T: Terminal>(
             };
             let schedule = Schedule::Drawn(seed);
             let done = run_as_tasks(rt, loaded.alloc, schedule, question, files, out);
-            handed_on(out, done)
+            Performed {
+                done: handed_on(out, done),
+                explanation: None,
+            }
         }
-        TextOrder::Exploring(schedules) => schedules_told(rt, schedules, loaded, files, out),
+        TextOrder::Exploring(schedules) => schedules_told(schedules, loaded, files, out),
         TextOrder::Inspecting => inspected_told(rt, loaded, files, out),
     }
 }
 
 /// Adds the explanation to a result, if it should be explained.
-fn explained<R: Threads + Sync, F: FileSource>(
-    rt: &R,
+fn explained<F: FileSource>(
     alloc: Global,
     files: &mut F,
     request: Request<'_>,
     source: &ProgramSource,
-    done: Result<u8, Failure>,
+    performed: Performed,
 ) -> Result<Answered, Refusal>
-    ensures same { in_short result ≡ done }
+    ensures same { in_short result ≡ performed.done }
     ensures said { IsSaid source.now.more result }
     ensures keeps { F.held files.new ≡ F.held files.old }
 {
+    let Performed { done, explanation } = performed;
     match done {
         Ok(status) => Ok(Answered::explained(alloc, files, request, source, status)),
-        Err(failure) => Err(Refusal::explained(rt, alloc, files, request, source, failure)),
+        Err(failure) => {
+            let told = Refusal::explained(alloc, files, request, source, failure, explanation);
+            Err(told)
+        }
     }
 }

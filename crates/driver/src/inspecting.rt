@@ -6,16 +6,17 @@ ghost use Rattle.command_line.specs.Requests.{settings as settings_of};
 ghost use Rattle.json_answers.specs.Inspected.{ObjectOfInspect};
 ghost use Rattle.driver.specs.Objects.{IsDescribed, TellsInspected};
 
-use crate::as_object::{line_explained, tell_explained};
 use crate::loaded::Loaded;
+use crate::performed::Performed;
 use commands::question::Question;
 use failures::failure::Failure;
 use files::file_source::FileSource;
+use json_answers::failed::{ExplainedLine, explained_line};
 use json_answers::inspecting::inspected;
 use json_answers::object_line::ObjectLine;
 use json_answers::running::serial_told;
 use json_answers::telling::{check_told, list_told};
-use json_answers::writing::answer_object;
+use json_answers::writing::{answer_object, tell_explained};
 use statement_steps::watch::Unwatched;
 use std::alloc::AllocError;
 use std::io::Write;
@@ -28,17 +29,29 @@ pub(crate) fn inspected_told<R: Threads + Sync, F: FileSource, O: Write>(
     loaded: Loaded<'_>,
     files: &mut F,
     out: &mut O,
-) -> Result<u8, Failure>
+) -> Performed
     ensures { TellsInspected loaded.entry.request.file.now
         (settings_of loaded.entry.request.settings) loaded.entry.text.now
-        (F.held files.old) (F.held files.new) (O.contents out.old) (O.contents out.new) result }
+        (F.held files.old) (F.held files.new) (O.contents out.old) (O.contents out.new)
+        result.done }
 {
     match object_of(rt, loaded, files) {
-        Ok(told) => answer_object(out, &told),
+        Ok(told) => Performed {
+            done: answer_object(out, &told),
+            explanation: None,
+        },
         Err(AllocError) => {
+            let Loaded {
+                alloc,
+                request,
+                text,
+            } = loaded;
             let failure = Failure::NoMemory;
-            tell_explained(rt, loaded, files, &failure, out);
-            Err(failure)
+            let explanation = tell_explained(alloc, files, request, text, &failure, out);
+            Performed {
+                done: Err(failure),
+                explanation,
+            }
         }
     }
 }
@@ -64,15 +77,14 @@ fn object_of<R: Threads + Sync, F: FileSource>(
         settings: request.settings,
     };
     let ran = serial_told(alloc, question, files, &mut Unwatched);
-    let check = described(rt, loaded, files, check_told(rt, alloc, text))?;
-    let list = described(rt, loaded, files, list_told(alloc, text))?;
-    let serial = described(rt, loaded, files, ran)?;
+    let check = described(loaded, files, check_told(rt, alloc, text))?;
+    let list = described(loaded, files, list_told(alloc, text))?;
+    let serial = described(loaded, files, ran)?;
     inspected(alloc, &check, &list, &serial)
 }
 
 /// Returns an answer, or the object of the failure why there is none, with its explanation.
-fn described<R: Threads + Sync, F: FileSource>(
-    rt: &R,
+fn described<F: FileSource>(
     loaded: Loaded<'_>,
     files: &mut F,
     done: Result<ObjectLine, Failure>,
@@ -81,10 +93,16 @@ fn described<R: Threads + Sync, F: FileSource>(
         (IsDescribed loaded.entry.request.file.now loaded.entry.text.now done) }
     ensures keeps { F.held files.new ≡ F.held files.old }
 {
+    let Loaded {
+        alloc,
+        request,
+        text,
+    } = loaded;
     match done {
         Ok(told) => Ok(told),
         Err(failure) => {
-            let line = line_explained(rt, loaded, files, &failure)?;
+            let told = explained_line(alloc, files, request, text, &failure)?;
+            let ExplainedLine { line, .. } = told;
             Ok(ObjectLine {
                 line,
                 status: failure.status(),

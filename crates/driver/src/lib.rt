@@ -11,6 +11,7 @@ mod inspecting;
 mod loaded;
 mod more;
 mod opening;
+mod performed;
 mod performing;
 mod refusal;
 mod reporting;

@@ -16,9 +16,8 @@ use failures::failure::Failure;
 use failures::message::emit_message;
 use files::file_source::FileSource;
 use printing::emit::append;
-use std::alloc::Global;
+use std::alloc::{AllocError, Global};
 use std::io::Write;
-use std::thread::Threads;
 
 /// The reason why a command failed, and the explanation after its line.
 #[derive(Drop)]
@@ -39,14 +38,15 @@ impl Refusal {
         }
     }
 
-    /// Explains a failure, if it should be explained and there is memory for it.
-    pub fn explained<R: Threads + Sync, F: FileSource>(
-        rt: &R,
+    /// Explains a failure, if it should be explained and there is memory for it. `known` is its
+    /// explanation, if it was already made.
+    pub fn explained<F: FileSource>(
         alloc: Global,
         files: &mut F,
         request: Request<'_>,
         source: &ProgramSource,
         failure: Failure,
+        known: Option<String>,
     ) -> Refusal
         ensures failure { result.failure ≡ failure }
         ensures more { source.now.more.explains ≡ false → string_bytes result.more ≡ [] }
@@ -56,7 +56,7 @@ impl Refusal {
             return Refusal::bare(alloc, failure);
         }
         let text = source.text.as_str();
-        let more = explanation(rt, alloc, files, request, text, &failure);
+        let more = explanation_of(alloc, files, request, text, &failure, known);
         Refusal {
             failure,
             more: said(alloc, more, source.paint),
@@ -100,5 +100,22 @@ impl Refusal {
             }
             Err(_) => status,
         }
+    }
+}
+
+/// Returns the explanation of a failure: the known one, if it was already made.
+fn explanation_of<F: FileSource>(
+    alloc: Global,
+    files: &mut F,
+    request: Request<'_>,
+    text: &str,
+    failure: &Failure,
+    known: Option<String>,
+) -> Result<String, AllocError>
+    ensures { F.held files.new ≡ F.held files.old }
+{
+    match known {
+        Some(known) => Ok(known),
+        None => explanation(alloc, files, request, text, failure),
     }
 }

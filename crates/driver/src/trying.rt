@@ -10,10 +10,10 @@ ghost use Rattle.test_and_bench.specs.TestsObject.{TellsTests, failed_name};
 ghost use Rattle.test_and_bench.specs.Trials.{DoesTest};
 
 use crate::answered::Answered;
-use crate::as_object::tell_explained;
 use crate::doing::tell_unread_file;
 use crate::handing::handed_on;
 use crate::loaded::Loaded;
+use crate::performed::Performed;
 use crate::refusal::Refusal;
 use crate::tracing::run_settings;
 use command_line::request::{Request, RunOptions};
@@ -21,7 +21,7 @@ use command_words::order::SeveralTests;
 use commands::question::Question;
 use failures::failure::Failure;
 use files::file_source::FileSource;
-use json_answers::writing::answer_object;
+use json_answers::writing::{answer_object, tell_explained};
 use race_checker::accepted::Accepted;
 use std::alloc::{AllocError, Global};
 use std::io::Write;
@@ -87,9 +87,10 @@ pub fn time_as_object<R: Threads + Wait + Sync, F: FileSource, O: Write, C: Stop
     files: &mut F,
     out: &mut O,
     clock: &mut C,
-) -> Result<u8, Failure>
+) -> Performed
     ensures { let a = asked_of loaded.entry.request in TellsTimes a.file a.settings loaded.entry.text.now
-        (F.held files.old) (F.held files.new) (O.contents out.old) (O.contents out.new) result }
+        (F.held files.old) (F.held files.new) (O.contents out.old) (O.contents out.new)
+        result.done }
 {
     let Loaded {
         alloc,
@@ -106,10 +107,16 @@ pub fn time_as_object<R: Threads + Wait + Sync, F: FileSource, O: Write, C: Stop
         clock,
     };
     match times_told(rt, timing, question, files) {
-        Ok(told) => answer_object(out, &told),
+        Ok(told) => Performed {
+            done: answer_object(out, &told),
+            explanation: None,
+        },
         Err(failure) => {
-            tell_explained(rt, loaded, files, &failure, out);
-            Err(failure)
+            let explanation = tell_explained(alloc, files, request, text, &failure, out);
+            Performed {
+                done: Err(failure),
+                explanation,
+            }
         }
     }
 }
@@ -210,7 +217,7 @@ fn tell_tests<R: Threads + Wait + Sync, F: FolderSource, O: Write>(
     match tests_told(rt, &testing, tests.names, files) {
         Ok(told) => answer_object(out, &told),
         Err(failure) => {
-            tell_unread_file(rt, alloc, name_in(&failure), files, &failure, out);
+            tell_unread_file(alloc, name_in(&failure), files, &failure, out);
             Err(failure)
         }
     }

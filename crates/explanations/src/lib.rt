@@ -12,7 +12,6 @@ pub mod input_errors;
 mod lines;
 mod mends;
 mod names;
-pub mod races;
 mod starts;
 pub mod syntax_errors;
 pub mod told;

@@ -1,1 +1,2 @@
+pub mod LeastRaces
 pub mod Statuses

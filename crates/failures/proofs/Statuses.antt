@@ -8,6 +8,7 @@ use Rattle.finish_scope.specs.declared.causes.Unsettled.{Unsettled}
 use Rattle.finish_scope.specs.declared.run_error.RunError.TheVariants.{OutOfMemory as MemoryInRun, Gather, Unlogged}
 use Rattle.trace_text.specs.declared.error.TraceError.TheVariants.{NotALine, NoMemory as MemoryInTrace}
 use Rattle.failures.specs.FailureStatus.{failure_status}
+use Rattle.failures.specs.declared.least_race.LeastRace.{LeastRace}
 use Rattle.failures.specs.declared.failure.Failure.TheVariants.{CannotRead, NotUtf8, Syntax, Types, Race, NoMemoryInCheck}
 use Rattle.failures.specs.declared.failure.Failure.TheVariants.{Input, Run, ChoicesNotUnderstood, NoLeaf, CannotWriteOutput, NoMemory}
 use Rattle.failures.specs.declared.failure.Failure.TheVariants.{NotLaidOut, CannotWrite, Trace, Illegal}
@@ -63,8 +64,8 @@ too_long_text = refl
 broken_rule : failure_status (Types (NotInScope 2)) ≡ 1
 broken_rule = refl
 
-race : (procedure first second : String Global) → failure_status (Race procedure first second) ≡ 1
-race procedure first second = refl
+race : (found : LeastRace) → failure_status (Race found) ≡ 1
+race found = refl
 
 wrong_input : failure_status (Input NotJson) ≡ 1
 wrong_input = refl

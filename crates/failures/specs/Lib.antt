@@ -1,3 +1,4 @@
 pub mod FailureStatus
 pub mod Failures
 pub mod Messages
+pub mod Races

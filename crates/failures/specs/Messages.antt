@@ -4,9 +4,12 @@ use Rattle.std.specs.Fmt.{decimal}
 use Rattle.std.specs.String.{string_bytes}
 use Rattle.syntax.specs.Refusals.{error_text as syntax_text}
 use Rattle.types.specs.Codes.{error_text}
-use Rattle.printing.specs.Reasons.{escaped, input_text, race_text}
+use Rattle.types.specs.Typed.{code_of}
+use Rattle.race_checker.specs.Translation.{race as race_of}
+use Rattle.printing.specs.Reasons.{escaped, input_text}
 use Rattle.finish_scope.specs.RunErrors.{error_code as run_code}
 use Rattle.trace_text.specs.Reading.{trace_error_text}
+use Rattle.failures.specs.Races.{race_text}
 use Rattle.failures.specs.declared.failure.Failure.{Failure}
 use Rattle.failures.specs.declared.failure.Failure.TheVariants.{CannotRead, NotUtf8, Syntax, Types}
 use Rattle.failures.specs.declared.failure.Failure.TheVariants.{Race, NoMemoryInCheck, Input, Run}
@@ -20,8 +23,7 @@ failure_text (CannotRead name) = codes "cannot read " ++ escaped (string_bytes n
 failure_text (NotUtf8 name) = codes "not UTF-8 " ++ escaped (string_bytes name)
 failure_text (Syntax e) = syntax_text e
 failure_text (Types e) = error_text e
-failure_text (Race procedure first second) =
-    race_text (string_bytes procedure) (string_bytes first) (string_bytes second)
+failure_text (Race found) = race_text (code_of found.typed) (race_of found.race)
 failure_text NoMemoryInCheck = codes "C2"
 failure_text (Input e) = input_text e
 failure_text (Run e) = run_code e

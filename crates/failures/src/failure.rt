@@ -1,27 +1,18 @@
 //! The reasons why a command ends early, with their messages and exit statuses.
 
-ghost use Rattle.std.specs.Prelude.{◌≡◌, IfOk};
-ghost use Rattle.std.specs.String.{string_bytes};
+ghost use Rattle.std.specs.Prelude.{◌≡◌};
 ghost use Rattle.failures.specs.FailureStatus.{failure_status};
-ghost use Rattle.types.specs.Translation.{procedure as plain_procedure, program};
-ghost use Rattle.effects.specs.Translation.{access as access_of};
-ghost use Rattle.race_checker.specs.Translation.{race as race_of};
-ghost use Rattle.failures.specs.Failures.{IsRaceOf, TellsNotUtf8, TellsRaceIn, TellsUnread, TellsUnwritten};
-ghost use Rattle.failures.specs.Failures.{access_text, kind_of, section_text, told_procedure};
-ghost use Rattle.failures.specs.Failures.{section_name as name_of_section};
+ghost use Rattle.failures.specs.Failures.{TellsNotUtf8, TellsUnread, TellsUnwritten};
 
 use crate::escaped::EscapedInput;
+use crate::least_race::LeastRace;
 use excerpts::escaped::Escaped;
 use finish_scope::run_error::RunError;
-use race_checker::race::Race;
-use sections::id::SectionId;
 use std::alloc::{AllocError, Global};
 use syntax::error::SyntaxError;
 use thiserror::Error;
 use trace_text::error::TraceError;
-use types::code::{Label, Procedure, Program};
 use types::error::TypeError;
-use types::ids::ProcedureId;
 use types::input_error::InputError;
 
 /// The reason why a command ended without its answer. `message::emit_message` writes its line, and
@@ -31,14 +22,10 @@ use types::input_error::InputError;
 pub enum Failure {
     /// `cannot read nowhere.afx`: `run nowhere.afx`, if there is no such file
     #[error("cannot read {}", Escaped(.name.as_str()))]
-    CannotRead {
-        name: String,
-    },
+    CannotRead { name: String },
     /// `not UTF-8 program.afx`: a file with the byte 255
     #[error("not UTF-8 {}", Escaped(.name.as_str()))]
-    NotUtf8 {
-        name: String,
-    },
+    NotUtf8 { name: String },
     /// `S2 at 1:13`: `main { skip }`
     #[error(transparent)]
     Syntax(SyntaxError),
@@ -46,12 +33,8 @@ pub enum Failure {
     #[error(transparent)]
     Types(TypeError),
     /// `C1 race in main: 2 write a, 3 read a`: `main { array a: int[1]; async { a[0] = 1; } print a[0]; }`
-    #[error("C1 race in {procedure}: {first}, {second}")]
-    Race {
-        procedure: String,
-        first: String,
-        second: String,
-    },
+    #[error("{0}")]
+    Race(LeastRace),
     /// `C2`: out of memory during the race check, for any program
     #[error("C2")]
     NoMemoryInCheck,
@@ -80,9 +63,7 @@ pub enum Failure {
     NotLaidOut,
     /// `cannot write /`: `run program.afx --trace /`
     #[error("cannot write {}", Escaped(.name.as_str()))]
-    CannotWrite {
-        name: String,
-    },
+    CannotWrite { name: String },
     /// `cannot write output`: any output, to a full disk
     #[error("cannot write output")]
     CannotWriteOutput,
@@ -148,77 +129,4 @@ impl Failure {
             Err(AllocError) => Failure::NoMemory,
         }
     }
-
-    /// Returns the failure for a program that has a race.
-    pub fn of_race(alloc: Global, code: &Program, race: Race) -> Failure
-        ensures { TellsRaceIn (program code.now) (race_of race) result }
-    {
-        match race_in(alloc, procedure_of(code, race.procedure), race) {
-            Ok(failure) => failure,
-            Err(AllocError) => Failure::NoMemoryInCheck,
-        }
-    }
-}
-
-/// Returns the procedure with this number. `main` is numbered after the others.
-pub fn procedure_of(code: &Program, procedure: ProcedureId) -> &Procedure
-    ensures { plain_procedure result.now ≡ told_procedure (program code.now) procedure.number }
-{
-    match code.procedures.get(procedure.number) {
-        Some(procedure) => procedure,
-        None => &code.main,
-    }
-}
-
-/// Returns the failure for a race in a procedure, with the names of its sections.
-fn race_in(alloc: Global, procedure: &Procedure, race: Race) -> Result<Failure, AllocError>
-    ensures { IfOk result (IsRaceOf (plain_procedure procedure.now) (race_of race)) }
-{
-    Ok(Failure::Race {
-        procedure: procedure.name.clone()?,
-        first: section_told(alloc, procedure, race.first)?,
-        second: section_told(alloc, procedure, race.second)?,
-    })
-}
-
-/// Returns an access of a section as the message of a race prints it: `2 write a`.
-pub fn section_told(
-    alloc: Global,
-    procedure: &Procedure,
-    access: effects::access::Access,
-) -> Result<String, AllocError>
-    ensures { IfOk result (λ text. string_bytes text
-        ≡ section_text (plain_procedure procedure.now) (access_of access)) }
-{
-    told(
-        alloc,
-        access.label,
-        access.write,
-        section_name(procedure, access.section),
-    )
-}
-
-/// Returns the name of a section.
-fn section_name(procedure: &Procedure, section: SectionId) -> &str
-    ensures { result.now ≡ name_of_section (plain_procedure procedure.now) section.number }
-{
-    match procedure.section_names.get(section.number) {
-        Some(name) => name.as_str(),
-        None => "",
-    }
-}
-
-/// Returns an access as the message prints it: `2 write a`.
-fn told(alloc: Global, label: Label, write: bool, name: &str) -> Result<String, AllocError>
-    ensures { IfOk result (λ text. string_bytes text ≡ access_text label write name.now) }
-{
-    let kind = kind(write);
-    format!(in alloc; "{label} {kind} {name}")
-}
-
-/// Returns what an access does.
-fn kind(write: bool) -> &'static str
-    ensures { result.now ≡ kind_of write }
-{
-    if write { "write" } else { "read" }
 }

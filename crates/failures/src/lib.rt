@@ -4,4 +4,6 @@
 
 pub mod escaped;
 pub mod failure;
+pub mod least_race;
 pub mod message;
+pub mod names;

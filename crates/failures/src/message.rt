@@ -1,18 +1,26 @@
 //! The messages of failures, written piece by piece without allocating.
 
 ghost use Rattle.std.specs.Prelude.{◌++◌, codes};
+ghost use Rattle.types.specs.Translation.{procedure as plain_procedure, program};
+ghost use Rattle.effects.specs.Translation.{access as access_of};
+ghost use Rattle.race_checker.specs.Translation.{race as race_of};
 ghost use Rattle.printing.specs.Appending.{Writes};
 ghost use Rattle.trace_text.specs.Reading.{trace_error_text};
 ghost use Rattle.failures.specs.Messages.{failure_text};
+ghost use Rattle.failures.specs.Races.{race_line, race_text, section_text};
 
 use crate::failure::Failure;
-use printing::emit::{EmitError, append};
+use crate::names::{kind, procedure_of, section_name};
+use effects::access::Access;
+use printing::emit::{EmitError, append, emit_label};
 use printing::reasons::{
-    emit_file, emit_input_error, emit_numbered, emit_race, emit_syntax_error, emit_text,
+    emit_file, emit_input_error, emit_named, emit_numbered, emit_syntax_error, emit_text,
     emit_type_error,
 };
+use race_checker::race::Race;
 use std::io::Write;
 use trace_text::error::TraceError;
+use types::code::{Procedure, Program};
 
 /// Writes the line of a failure, with its newline.
 pub fn emit_message<W: Write>(err: &mut W, failure: &Failure) -> Result<(), EmitError>
@@ -32,11 +40,7 @@ fn emit_failure<W: Write>(err: &mut W, failure: &Failure) -> Result<(), EmitErro
         Failure::NotUtf8 { name } => emit_file(err, "not UTF-8 ", name.as_str()),
         Failure::Syntax(error) => emit_syntax_error(err, error),
         Failure::Types(error) => emit_type_error(err, *error),
-        Failure::Race {
-            procedure,
-            first,
-            second,
-        } => emit_race(err, procedure.as_str(), first.as_str(), second.as_str()),
+        Failure::Race(found) => emit_race(err, found.typed.code(), found.race),
         Failure::NoMemoryInCheck => emit_text(err, "C2"),
         Failure::Input(error) => emit_input_error(err, error),
         Failure::Run(error) => emit_text(err, error.code()),
@@ -49,6 +53,40 @@ fn emit_failure<W: Write>(err: &mut W, failure: &Failure) -> Result<(), EmitErro
         Failure::CannotWriteOutput => emit_text(err, "cannot write output"),
         Failure::NoMemory => emit_text(err, "no memory"),
     }
+}
+
+/// Writes the line of a race of a program, without its newline: `C1 race in main: 2 write a, 3 read a`
+pub fn emit_race<W: Write>(err: &mut W, code: &Program, race: Race) -> Result<(), EmitError>
+    ensures { Writes (W.contents err.old) (W.contents err.new) result
+        (race_text (program code.now) (race_of race)) }
+{
+    emit_race_of(err, procedure_of(code, race.procedure), race)
+}
+
+/// Writes the line of a race of a procedure.
+fn emit_race_of<W: Write>(err: &mut W, procedure: &Procedure, race: Race) -> Result<(), EmitError>
+    ensures { Writes (W.contents err.old) (W.contents err.new) result
+        (race_line (plain_procedure procedure.now) (race_of race)) }
+{
+    emit_named(err, "C1 race in ", procedure.name.as_str())?;
+    emit_access(err, ": ", procedure, race.first)?;
+    emit_access(err, ", ", procedure, race.second)
+}
+
+/// Writes a text and an access: `: 2 write a`
+fn emit_access<W: Write>(
+    err: &mut W,
+    told: &str,
+    procedure: &Procedure,
+    access: Access,
+) -> Result<(), EmitError>
+    ensures { Writes (W.contents err.old) (W.contents err.new) result
+        (told.now ++ section_text (plain_procedure procedure.now) (access_of access)) }
+{
+    emit_text(err, told)?;
+    emit_label(err, access.label)?;
+    emit_named(err, " ", kind(access.write))?;
+    emit_named(err, " ", section_name(procedure, access.section))
 }
 
 /// `J1 line 3`

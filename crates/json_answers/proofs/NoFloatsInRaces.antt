@@ -8,7 +8,7 @@ use Rattle.race_checker.specs.Races.{Race}
 use Rattle.witness.specs.declared.step.WayStep.{WayStep}
 use Rattle.witness.specs.declared.sharing.Sharing.{Sharing}
 use Rattle.witness.specs.declared.witness.Witness.{Witness}
-use Rattle.failures.specs.Failures.{told_procedure}
+use Rattle.failures.specs.Races.{told_procedure}
 use Rattle.json_answers.proofs.NoFloats.{HasNoFloat, list_has_none, natural_has_none, object_has_none}
 use Rattle.json_answers.proofs.NoFloats.{helps_have_none, or_null_has_none, reason_has_none, string_has_none}
 use Rattle.json_answers.specs.Pieces.{natural}

@@ -9,7 +9,7 @@ use Rattle.race_checker.specs.Races.{Race}
 use Rattle.witness.specs.declared.step.WayStep.{WayStep}
 use Rattle.witness.specs.declared.sharing.Sharing.{Sharing}
 use Rattle.witness.specs.declared.witness.Witness.{Witness}
-use Rattle.failures.specs.Failures.{told_procedure}
+use Rattle.failures.specs.Races.{told_procedure}
 use Rattle.json_answers.proofs.Shallow.{Within, list_within, natural_within, object_within, or_null_within}
 use Rattle.json_answers.proofs.Shallow.{helps_within, reason_within, string_within}
 use Rattle.json_answers.specs.Pieces.{natural, or_null}

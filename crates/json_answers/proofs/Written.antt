@@ -1,31 +1,24 @@
 -- From the line of an object to its meaning.
-use Rattle.std.proofs.Common.{◌≡◌, ◌≢◌, ℕ, List, Option, Some, Result, Ok, Err, ap, sym, subst, ◌∙◌}
+use Rattle.std.proofs.Common.{◌≡◌, ◌≢◌, ℕ, List, Option, Result, Ok, Err, ap, sym, subst, ◌∙◌}
 use Rattle.std.proofs.Common.{Global, String, string_bytes}
 use Rattle.std.specs.declared.alloc.AllocError.{AllocError}
 use Rattle.std.proofs.KnownBytes.{Appends-kept}
 use Rattle.std.specs.Io.KnownBytes.{Keeps}
-use Rattle.shared_lemmas.proofs.Results.{ok_is_no_error}
-use Rattle.std.specs.Prelude.{IfErr, IfOk, IfSome}
+use Rattle.std.specs.Prelude.{IfOk}
 use Rattle.syntax.specs.declared.place.TextPlace.{TextPlace}
 use Rattle.types.specs.Code.{Program}
 use Rattle.types.specs.Typed.{code_of}
-use Rattle.types.specs.declared.typed.Typed.{Typed}
 use Rattle.parallel_relation.specs.Pairs.{ArePairs, AreListed, HasPair}
 use Rattle.parallel_relation.specs.Together.{LabelsMeet}
 use Rattle.parallel_relation.specs.declared.pairs.Pairs.{Pairs as KeptPairs}
-use Rattle.race_checker.specs.Races.{IsLeastRace, IsRace, Race as ProgramRace}
-use Rattle.race_checker.specs.Refusal.{IsRefusalOf}
 use Rattle.race_checker.specs.Translation.{race as race_of}
-use Rattle.race_checker.specs.declared.accepted.Accepted.{Accepted}
-use Rattle.race_checker.specs.declared.check.Refused.{Refused}
-use Rattle.race_checker.specs.declared.check.Refused.TheVariants.{Race}
-use Rattle.race_checker.specs.declared.race.Race.{Race as FoundRace}
 use Rattle.witness.specs.Witness.{IsShortest, IsWitness}
 use Rattle.witness.specs.declared.witness.Witness.{Witness}
 use Rattle.printing.proofs.Appending.{beginning_written}
 use Rattle.printing.specs.Appending.{AppendsBeginning, Writes}
 use Rattle.failures.specs.declared.failure.Failure.{Failure}
 use Rattle.failures.specs.declared.failure.Failure.TheVariants.{CannotWriteOutput}
+use Rattle.failures.specs.declared.least_race.LeastRace.{LeastRace}
 use Rattle.commands.specs.Answers.{Answer, IsCodeOf}
 use Rattle.json_answers.specs.Pieces.{line}
 use Rattle.json_answers.specs.Refusals.{refusal_json}
@@ -35,10 +28,7 @@ use Rattle.commands.proofs.Answering.{listed_as}
 use Rattle.json_answers.specs.Objects.{ArePlaces, ObjectOfPairs}
 use Rattle.json_answers.specs.declared.object_line.ObjectLine.{ObjectLine}
 use Rattle.json_answers.specs.declared.reason.Reason.{Reason}
-use Rattle.json_answers.specs.Failing.{FailedAsObject, IsToldAsObject, ShowsRace, TellsPlaced, TellsRace, told}
-
-error_is : {A E : Type 0} (d e : E) → (let r : Result A E = Err d in r) ≡ Err e → d ≡ e
-error_is d e is = cc
+use Rattle.json_answers.specs.Failing.{FailedAsObject, IsToldAsObject, TellsPlaced, TellsRace, told}
 
 kept_begun : (a b c : Option (List ℕ)) (t : List ℕ) → AppendsBeginning a b t → Keeps b c → AppendsBeginning a c t
 kept_begun a b c t p keeps = record {
@@ -63,48 +53,24 @@ placed_told file text object f places shown reason same begun is = record {
   told_is = is ∙ ap (λ (ps : List TextPlace). line (refusal_json file ps f reason)) same;
 }
 
--- the race in an error of `check`
-pub refusal_of : (typed back : Typed) (race : FoundRace) (e : Refused) (r : Result Accepted Refused) → r ≡ Err e
-    → e ≡ Race race back → IfErr r (IsRefusalOf typed) → (back ≡ typed) × IsLeastRace (code_of typed) (race_of race)
-refusal_of typed back race e (Ok x) is of refused = absurd (ok_is_no_error x e is)
-refusal_of typed back race e (Err d) is of refused = subst (IsRefusalOf typed) (error_is d e is ∙ of) refused
-
--- what is known of a value that was found
-of_found : {X : Type 0} (P : X → Type 0) (found : Option X) (x : X) → found ≡ Some x → IfSome found P → P x
-of_found P found x is known = subst (λ o. IfSome o P) is known
-
--- a witness that was found, of a race
-pub race_shown : (file object : List ℕ) (places : List TextPlace) (code back : Program) (race : ProgramRace)
-    (found : Option Witness) (w : Witness) (reason : Reason) → found ≡ Some w → IfSome found (IsWitness code race)
-    → IfSome found (IsShortest code race) → back ≡ code → object ≡ line (race_json file places back race w reason)
-    → ShowsRace file places code race object
-race_shown file object places code back race found w reason found_is is_witness shortest same is = record {
-  witness = w;
-  is_witness = of_found (IsWitness code race) found w found_is is_witness;
-  shortest = of_found (IsShortest code race) found w found_is shortest;
-  reason = reason;
-  told_is = is ∙ ap (λ (p : Program). line (race_json file places p race w reason)) same;
-}
-
--- a race that was found again
-pub race_told : (file text object : List ℕ) (typed back : Typed) (race : ProgramRace) (places shown : List TextPlace)
-    → IsCodeOf text (code_of typed) → back ≡ typed → IsLeastRace (code_of typed) race → shown ≡ places
-    → ArePlaces text places → ShowsRace file shown (code_of back) race object → TellsRace file text object
-race_told file text object typed back race places shown is_code same_typed least same begun shows = record {
-  code = code_of typed;
-  is_code = is_code;
-  race = race;
-  least = least;
+-- the race of a failure, with its witness
+pub race_told : (file text object : List ℕ) (found : LeastRace) (back : Program) (places shown : List TextPlace) (w : Witness)
+    (reason : Reason) → IsWitness (code_of found.typed) (race_of found.race) w
+    → IsShortest (code_of found.typed) (race_of found.race) w → back ≡ code_of found.typed → shown ≡ places
+    → ArePlaces text places → object ≡ line (race_json file shown back (race_of found.race) w reason)
+    → TellsRace file text found object
+race_told file text object found back places shown w reason is_witness shortest same_code same begun is = record {
   places = places;
   begun = begun;
-  shows = subst (λ (ps : List TextPlace). ShowsRace file ps (code_of typed) race object) same
-      (subst (λ (t : Typed). ShowsRace file shown (code_of t) race object) same_typed shows);
+  shows = record {
+    witness = w;
+    is_witness = is_witness;
+    shortest = shortest;
+    reason = reason;
+    told_is = is ∙ ap (λ (p : Program). line (race_json file shown p (race_of found.race) w reason)) same_code
+        ∙ ap (λ (ps : List TextPlace). line (race_json file ps (code_of found.typed) (race_of found.race) w reason)) same;
+  };
 }
-
--- the least race is one
-pub least_is_race : (typed back : Typed) (race : ProgramRace) → back ≡ typed → IsLeastRace (code_of typed) race
-    → IsRace (code_of back) race
-least_is_race typed back race same least = subst (λ (t : Typed). IsRace (code_of t) race) (sym same) least.among
 
 -- the line of an object, with its status
 pub object_told : (Is : Answer) (r : Result ObjectLine Failure) (l : Result (String Global) AllocError)

@@ -3,16 +3,19 @@ use Rattle.std.specs.Prelude.{ℕ, ◌≡◌, ◌≢◌, List, [], Option}
 use Rattle.std.specs.Io.KnownBytes.{Keeps}
 use Rattle.syntax.specs.declared.place.TextPlace.{TextPlace}
 use Rattle.types.specs.Code.{Program}
-use Rattle.race_checker.specs.Races.{IsLeastRace, Race as ProgramRace}
+use Rattle.types.specs.Typed.{code_of}
+use Rattle.race_checker.specs.Races.{Race as ProgramRace}
+use Rattle.race_checker.specs.Translation.{race as race_of}
 use Rattle.witness.specs.Witness.{IsShortest, IsWitness}
 use Rattle.witness.specs.declared.witness.Witness.{Witness}
 use Rattle.printing.specs.Appending.{AppendsBeginning}
 use Rattle.failures.specs.declared.failure.Failure.{Failure}
+use Rattle.failures.specs.declared.least_race.LeastRace.{LeastRace}
 use Rattle.failures.specs.declared.failure.Failure.TheVariants.{Types, Race, CannotWriteOutput}
 use Rattle.json_answers.specs.Pieces.{line}
 use Rattle.json_answers.specs.Refusals.{refusal_json}
 use Rattle.json_answers.specs.Races.{race_json}
-use Rattle.commands.specs.Answers.{Answer, Began, IsCodeOf}
+use Rattle.commands.specs.Answers.{Answer, Began}
 use Rattle.json_answers.specs.Objects.{ArePlaces}
 use Rattle.json_answers.specs.declared.reason.Reason.{Reason}
 
@@ -26,15 +29,12 @@ pub record ShowsRace (file : List ℕ) (places : List TextPlace) (code : Program
   pub reason : Reason
   pub told_is : told ≡ line (race_json file places code race witness reason)
 
--- the least race of the text's program
-pub record TellsRace (file text told : List ℕ) : Type 0 where
-  pub code : Program
-  pub is_code : IsCodeOf text code
-  pub race : ProgramRace
-  pub least : IsLeastRace code race
+-- the race of a failure, with the positions of the text's statements. `HasRace` states that it is the least race of the
+-- text's program
+pub record TellsRace (file text : List ℕ) (found : LeastRace) (told : List ℕ) : Type 0 where
   pub places : List TextPlace
   pub begun : ArePlaces text places
-  pub shows : ShowsRace file places code race told
+  pub shows : ShowsRace file places (code_of found.typed) (race_of found.race) told
 
 -- a failure at a statement of the text's program
 pub record TellsPlaced (file text : List ℕ) (f : Failure) (told : List ℕ) : Type 0 where
@@ -51,7 +51,7 @@ pub record TellsBare (file : List ℕ) (f : Failure) (told : List ℕ) : Type 0 
 -- the object of a failure; only a race and a broken rule have statements. Why it is one, the suggestions, and
 -- the position of a failure that is neither at a statement nor in its line aren't specified
 abbrev pub TellsFailure : (file text : List ℕ) → Failure → (told : List ℕ) → Type 0
-TellsFailure file text (Race procedure first second) told = TellsRace file text told
+TellsFailure file text (Race found) told = TellsRace file text found told
 TellsFailure file text (Types e) told = TellsPlaced file text (Types e) told
 TellsFailure file text f told = TellsBare file f told
 

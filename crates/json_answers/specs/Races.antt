@@ -6,8 +6,7 @@ use Rattle.types.specs.Code.{Procedure, Program}
 use Rattle.effects.specs.Accesses.{Access}
 use Rattle.race_checker.specs.Races.{Race}
 use Rattle.witness.specs.declared.witness.Witness.{Witness}
-use Rattle.printing.specs.Reasons.{race_text}
-use Rattle.failures.specs.Failures.{kind_of, section_name, section_text, told_procedure}
+use Rattle.failures.specs.Races.{kind_of, race_text, section_name, told_procedure}
 use Rattle.json_answers.specs.Pieces.{natural, object_of, or_null}
 use Rattle.json_answers.specs.Places.{column_of, line_of, place_at}
 use Rattle.json_answers.specs.Refusals.{helps_json, reason_json}
@@ -26,12 +25,6 @@ access_members places g a =
 
 abbrev pub access_json : List TextPlace → Procedure → Access → Data
 access_json places g a = object_of (access_members places g a)
-
--- the line of a race
-abbrev pub race_message : Program → Race → List ℕ
-race_message p r =
-    let g = told_procedure p r.procedure in
-    race_text g.name (section_text g r.first) (section_text g r.second)
 
 -- the procedure that has it, both accesses, and why it is a race
 abbrev pub accesses_members : List TextPlace → Program → Race → Witness → List (List ℕ × Data)
@@ -70,7 +63,7 @@ told_members file place label message accesses reason =
 abbrev pub race_members : (file : List ℕ) → List TextPlace → Program → Race → Witness → Reason
     → List (List ℕ × Data)
 race_members file places p r w reason =
-    told_members file (place_at places r.first.label) r.first.label (race_message p r)
+    told_members file (place_at places r.first.label) r.first.label (race_text p r)
     (accesses_json places p r w) reason
 
 abbrev pub race_json : (file : List ℕ) → List TextPlace → Program → Race → Witness → Reason → Data

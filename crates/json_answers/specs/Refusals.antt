@@ -24,7 +24,7 @@ use Rattle.json_answers.specs.declared.reason.Reason.{Reason}
 abbrev pub failure_code : Failure → Option (List ℕ)
 failure_code (Syntax e) = Some (syntax_code e)
 failure_code (Types e) = Some (rule_code e)
-failure_code (Race procedure first second) = Some (codes "C1")
+failure_code (Race found) = Some (codes "C1")
 failure_code NoMemoryInCheck = Some (codes "C2")
 failure_code (Input e) = Some (input_code e)
 failure_code (Run e) = Some (run_code e)

@@ -7,7 +7,7 @@ use Rattle.witness.specs.declared.step.Rule.{Rule}
 use Rattle.witness.specs.declared.step.Rule.TheVariants.{Own, Body, Other, Turn, Side, Piece, Enter, Begin}
 use Rattle.witness.specs.declared.step.Rule.TheVariants.{Await, Handler}
 use Rattle.witness.specs.declared.step.WayStep.{WayStep}
-use Rattle.failures.specs.Failures.{kind_of, section_name, told_procedure}
+use Rattle.failures.specs.Races.{kind_of, section_name, told_procedure}
 use Rattle.json_answers.specs.Pieces.{list_by, natural, object_of, or_null}
 use Rattle.json_answers.specs.Places.{column_of, line_of, place_at}
 

@@ -10,7 +10,7 @@ use Rattle.witness.specs.declared.crossing.RunsTogether.TheVariants.{Follows, Tu
 use Rattle.witness.specs.declared.sharing.Sharing.{Sharing}
 use Rattle.witness.specs.declared.sharing.Sharing.TheVariants.{Same, FirstIsPart, SecondIsPart, OfSplits}
 use Rattle.witness.specs.declared.witness.Witness.{Witness}
-use Rattle.failures.specs.Failures.{section_name, told_procedure}
+use Rattle.failures.specs.Races.{section_name, told_procedure}
 use Rattle.json_answers.specs.Pieces.{object_of, or_null}
 use Rattle.json_answers.specs.Steps.{way_json}
 

@@ -2,8 +2,8 @@
 
 ghost use Rattle.std.specs.Prelude.{◌≡◌};
 ghost use Rattle.types.specs.Translation.{procedure as procedure_of, program};
-ghost use Rattle.failures.specs.Failures.{kind_of as kind_text, section_name as name_of_section};
-ghost use Rattle.failures.specs.Failures.{told_procedure};
+ghost use Rattle.failures.specs.Races.{kind_of as kind_text, section_name as name_of_section};
+ghost use Rattle.failures.specs.Races.{told_procedure};
 
 use sections::id::SectionId;
 use types::code::{Procedure, Program};

@@ -6,9 +6,10 @@ ghost use Rattle.serde_json.specs.View.{view};
 ghost use Rattle.types.specs.Translation.{procedure as procedure_of, program};
 ghost use Rattle.effects.specs.Translation.{access as access_of};
 ghost use Rattle.race_checker.specs.Translation.{race as race_of};
+ghost use Rattle.failures.specs.Races.{race_text};
 ghost use Rattle.json_answers.specs.Pieces.{IsReadBack, line, object_of};
 ghost use Rattle.json_answers.specs.Places.{place_at as place_of_label};
-ghost use Rattle.json_answers.specs.Races.{access_json, accesses_json, members_at, race_json, race_message};
+ghost use Rattle.json_answers.specs.Races.{access_json, accesses_json, members_at, race_json};
 ghost use Rattle.json_answers.specs.Races.{told_members};
 
 use crate::found::FoundRace;
@@ -16,10 +17,9 @@ use crate::line::line_of;
 use crate::names::{kind_of, procedure_in, section_name};
 use crate::refusals::{Why, why_of};
 use crate::text_places::{column_in, line_in, place_at};
-use crate::told::message_of;
 use crate::witnesses::witness_value;
 use effects::access::Access;
-use failures::failure::Failure;
+use failures::message::emit_race;
 use race_checker::race::Race;
 use serde_json::{Value, json};
 use std::alloc::{AllocError, Global};
@@ -145,11 +145,15 @@ fn access_value(
 /// Returns the line of a race, without its line feed.
 fn message_of_race(alloc: Global, code: &Program, race: Race) -> Result<String, AllocError>
     ensures { IfOk result (λ text. string_bytes text
-        ≡ race_message (program code.now) (race_of race)) }
+        ≡ race_text (program code.now) (race_of race)) }
 {
-    let failure = Failure::of_race(alloc, code, race);
-    match &failure {
-        Failure::Race { .. } => message_of(alloc, &failure),
-        _ => Err(AllocError),
+    let mut bytes = Vec::new(alloc);
+    if emit_race(&mut bytes, code, race).is_err() {
+        return Err(AllocError);
+    }
+    match String::from_utf8(bytes) {
+        Ok(text) => Ok(text),
+        // It isn't specified that the line is text; it is built from texts.
+        Err(_) => Err(AllocError),
     }
 }

@@ -21,7 +21,7 @@ pub(crate) fn code_of(failure: &Failure) -> Option<&'static str>
     match failure {
         Failure::Syntax(error) => Some(error.code()),
         Failure::Types(error) => Some(error.code()),
-        Failure::Race { .. } => Some("C1"),
+        Failure::Race(_) => Some("C1"),
         Failure::NoMemoryInCheck => Some("C2"),
         Failure::Input(error) => Some(error.code()),
         Failure::Run(error) => Some(error.code()),

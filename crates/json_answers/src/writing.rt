@@ -5,14 +5,15 @@ ghost use Rattle.std.specs.String.{string_bytes};
 ghost use Rattle.printing.specs.Appending.{Writes};
 ghost use Rattle.json_answers.specs.Failing.{IsToldAsObject, TellsFailure};
 
-use crate::failed::refusal_line;
+use crate::failed::{ExplainedLine, explained_line, refusal_line};
 use crate::object_line::ObjectLine;
 use crate::refused_program::RefusedProgram;
+use command_line::request::Request;
 use failures::failure::Failure;
+use files::file_source::FileSource;
 use printing::emit::append;
-use std::alloc::Global;
+use std::alloc::{AllocError, Global};
 use std::io::Write;
-use std::thread::Threads;
 
 /// Writes an answer, flushes the writer, and returns the exit status.
 pub fn answer_object<O: Write>(out: &mut O, told: &ObjectLine) -> Result<u8, Failure>
@@ -29,8 +30,7 @@ pub fn answer_object<O: Write>(out: &mut O, told: &ObjectLine) -> Result<u8, Fai
 
 /// Writes the object of a failure, as far as the writer accepts it, if there is memory for the
 /// object.
-pub fn tell_refusal<R: Threads + Sync, O: Write>(
-    rt: &R,
+pub fn tell_refusal<O: Write>(
     alloc: Global,
     refused: RefusedProgram<'_>,
     failure: &Failure,
@@ -40,8 +40,33 @@ pub fn tell_refusal<R: Threads + Sync, O: Write>(
         (TellsFailure refused.entry.file.now refused.entry.text.now failure.now)
         (O.contents out.old) (O.contents out.new) }
 {
-    if let Ok(line) = refusal_line(rt, alloc, refused, failure) {
+    if let Ok(line) = refusal_line(alloc, refused, failure) {
         let _ = append(out, line.as_bytes());
         let _ = out.flush();
+    }
+}
+
+/// Writes the object of a failure of a request for the text of a program, as far as the writer
+/// accepts it. Returns the explanation in the object, or None if there is no memory for both.
+pub fn tell_explained<F: FileSource, O: Write>(
+    alloc: Global,
+    files: &mut F,
+    request: Request<'_>,
+    text: &str,
+    failure: &Failure,
+    out: &mut O,
+) -> Option<String>
+    ensures told { IsToldAsObject (TellsFailure request.entry.file.now text.now failure.now)
+        (O.contents out.old) (O.contents out.new) }
+    ensures keeps { F.held files.new ≡ F.held files.old }
+{
+    match explained_line(alloc, files, request, text, failure) {
+        Ok(told) => {
+            let ExplainedLine { line, explanation } = told;
+            let _ = append(out, line.as_bytes());
+            let _ = out.flush();
+            Some(explanation)
+        }
+        Err(AllocError) => None,
     }
 }

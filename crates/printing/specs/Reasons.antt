@@ -8,11 +8,6 @@ use Rattle.types.specs.InputErrors.{error_text}
 use Rattle.types.specs.declared.input_error.InputError.{InputError}
 use Rattle.types.specs.declared.input_error.InputError.TheVariants.{UnknownArray}
 
--- a race: its procedure, and both its accesses
-abbrev pub race_text : (procedure first second : List ℕ) → List ℕ
-race_text procedure first second =
-    (codes "C1 race in " ++ procedure) ++ ((codes ": " ++ first) ++ (codes ", " ++ second))
-
 -- ---- names from outside
 
 -- a hexadecimal digit

@@ -5,7 +5,7 @@ ghost use Rattle.std.specs.Fmt.{decimal};
 ghost use Rattle.syntax.specs.Refusals.{at_text, error_text as syntax_text};
 ghost use Rattle.types.specs.Codes.{error_text, labelled};
 ghost use Rattle.printing.specs.Appending.{Writes};
-ghost use Rattle.printing.specs.Reasons.{digit, escaped, escaped_character, input_text, race_text};
+ghost use Rattle.printing.specs.Reasons.{digit, escaped, escaped_character, input_text};
 
 use crate::emit::{EmitError, append, emit_count, emit_label};
 use std::io::Write;
@@ -23,7 +23,7 @@ pub fn emit_text<W: Write>(err: &mut W, text: &str) -> Result<(), EmitError>
 }
 
 /// Writes a text and a name.
-fn emit_named<W: Write>(err: &mut W, told: &str, name: &str) -> Result<(), EmitError>
+pub fn emit_named<W: Write>(err: &mut W, told: &str, name: &str) -> Result<(), EmitError>
     ensures { Writes (W.contents err.old) (W.contents err.new) result (told.now ++ name.now) }
 {
     emit_text(err, told)?;
@@ -115,21 +115,6 @@ fn emit_at_label<W: Write>(err: &mut W, code: &str, label: Label) -> Result<(), 
     emit_text(err, code)?;
     emit_text(err, " at label ")?;
     emit_label(err, label)
-}
-
-/// Writes `C1 race in main: 2 write a, 4 read a`.
-pub fn emit_race<W: Write>(
-    err: &mut W,
-    procedure: &str,
-    first: &str,
-    second: &str,
-) -> Result<(), EmitError>
-    ensures { Writes (W.contents err.old) (W.contents err.new) result
-        (race_text procedure.now first.now second.now) }
-{
-    emit_named(err, "C1 race in ", procedure)?;
-    emit_named(err, ": ", first)?;
-    emit_named(err, ", ", second)
 }
 
 /// Writes `N4 a`.

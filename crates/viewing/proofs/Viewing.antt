@@ -67,7 +67,7 @@ module _ (s : Settings) (held : Held) (text : List ℕ) where
   not_accepted : (f : Failure) → TellsNotAccepted text f → TellsNoTrace s held text f
   not_accepted (Syntax e) told = told
   not_accepted (Types e) told = told
-  not_accepted (Race procedure first second) told = told
+  not_accepted (Race found) told = told
   not_accepted NoMemoryInCheck told = told
   not_accepted _ told = absurd told
 
@@ -99,7 +99,7 @@ module _ (s : Settings) (held : Held) (text : List ℕ) where
   explained c (NotUtf8 name) told = told
   explained c (Syntax e) told = told
   explained c (Types e) told = told
-  explained c (Race procedure first second) told = told
+  explained c (Race found) told = told
   explained c NoMemoryInCheck told = told
   explained c (Input e) told = told
   explained c (Trace e) told = told
@@ -112,7 +112,7 @@ module _ (s : Settings) (held : Held) (text : List ℕ) where
   other (NotUtf8 name) told = tt
   other (Syntax e) told = tt
   other (Types e) told = tt
-  other (Race procedure first second) told = tt
+  other (Race found) told = tt
   other NoMemoryInCheck told = tt
   other (Input e) told = tt
   other (Trace e) told = tt

@@ -1,5 +1,6 @@
 //! The lines of failures, as `emit_message` writes them and as `Display` formats them.
 
+use commands::programs::accepted_of;
 use failures::failure::Failure;
 use failures::message::emit_message;
 use finish_scope::inner::Inner;
@@ -207,12 +208,11 @@ fn lines_of_inputs_and_races(rt: HostRuntime) {
         "N4",
     );
     tells(&rt, alloc, &Failure::Input(InputError::OutOfMemory), "N6");
-    let race = Failure::Race {
-        procedure: owned(&rt, alloc, "main"),
-        first: owned(&rt, alloc, "2 write a"),
-        second: owned(&rt, alloc, "4 read a"),
-    };
-    tells(&rt, alloc, &race, "C1 race in main: 2 write a, 4 read a");
+    let racy = "main { array a: int[1]; async { a[0] = 1; } skip; print a[0]; }";
+    match accepted_of(&rt, alloc, racy) {
+        Ok(_accepted) => assert!(rt; false),
+        Err(race) => tells(&rt, alloc, &race, "C1 race in main: 2 write a, 4 read a"),
+    }
 }
 
 #[test]

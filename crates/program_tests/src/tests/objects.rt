@@ -1,14 +1,17 @@
 //! The answers of commands as JSON.
 
 use crate::tests::{lists_of, typed};
+use commands::programs::accepted_of;
 use effects::summaries::summarize;
 use failures::failure::Failure;
+use json_answers::failed::refusal_line;
 use json_answers::found::FoundRace;
 use json_answers::outcomes::outcome_object;
 use json_answers::programs::{accepted_object, pairs_object};
 use json_answers::races::race_object;
 use json_answers::reason::Reason;
 use json_answers::refusals::refusal_object;
+use json_answers::refused_program::RefusedProgram;
 use parallel_relation::pairs::may_run_together;
 use race_checker::check::{Refused, check};
 use serde_json::Value;
@@ -175,6 +178,42 @@ fn races_are_told(rt: HostRuntime) {
         }
         Err(_other) => assert!(rt; false),
         Ok(_accepted) => assert!(rt; false),
+    }
+}
+
+/// The object of a race has all of it, even if the text isn't there any more: it isn't parsed or
+/// checked again.
+#[test]
+fn races_are_told_without_their_text(rt: HostRuntime) {
+    let alloc = rt.alloc();
+    let refused = RefusedProgram {
+        file: "r.afx",
+        text: "",
+        explanation: "",
+    };
+    match accepted_of(&rt, alloc, RACY) {
+        Ok(_accepted) => assert!(rt; false),
+        Err(failure) => {
+            let told = refusal_line(alloc, refused, &failure).expect(&rt, "memory");
+            let wanted = "{\"code\":\"C1\",\"column\":null,\"file\":\"r.afx\",\"help\":[],\
+                \"label\":1,\"line\":null,\"message\":\"C1 race in main: 1 write a, 4 write a\",\
+                \"race\":{\"first\":{\"column\":null,\"kind\":\"write\",\"label\":1,\"line\":null,\
+                \"section\":\"a\"},\"procedure\":\"main\",\"second\":{\"column\":null,\
+                \"kind\":\"write\",\"label\":4,\"line\":null,\"section\":\"a\"},\
+                \"witness\":{\"first\":[\
+                {\"calls\":null,\"column\":null,\"kind\":\"async\",\"label\":2,\"line\":null,\
+                \"procedure\":\"main\",\"section\":\"a\"},\
+                {\"calls\":\"fill\",\"column\":null,\"kind\":\"call\",\"label\":3,\"line\":null,\
+                \"procedure\":\"main\",\"section\":\"a\"},\
+                {\"calls\":null,\"column\":null,\"kind\":\"write\",\"label\":1,\"line\":null,\
+                \"procedure\":\"fill\",\"section\":\"s\"}],\
+                \"meeting\":\"follows\",\"pending\":\"first\",\"second\":[\
+                {\"calls\":null,\"column\":null,\"kind\":\"write\",\"label\":4,\"line\":null,\
+                \"procedure\":\"main\",\"section\":\"a\"}],\
+                \"sharing\":{\"kind\":\"same\",\"section\":null}}},\
+                \"reason\":null,\"status\":1}\n";
+            assert_eq!(rt; told.as_str(), wanted);
+        }
     }
 }
 

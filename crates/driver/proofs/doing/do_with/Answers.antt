@@ -22,7 +22,7 @@ pub returns-in-Describing-clause-done : goal.returns-in-Describing-clause-done
 returns-in-Describing-clause-done g c =
     let request = c.args.loaded.request in let text = c.args.loaded.text.now in
     does_so c.args.doing (Describing c.in-Describing.subject) c.in-Describing.is (asked_of request) text _ _ _ _
-    c.told.result c.told.ensures.done
+    c.told.result.done c.told.ensures.done
 
 pub returns-in-Timing-clause-done : goal.returns-in-Timing-clause-done
 returns-in-Timing-clause-done g c =
@@ -34,7 +34,7 @@ returns-in-Timing-clause-done g c =
 pub returns-in-TimingAsObject-clause-done : goal.returns-in-TimingAsObject-clause-done
 returns-in-TimingAsObject-clause-done g c =
     does_so c.args.doing TimingAsObject c.in-TimingAsObject.is (asked_of c.args.loaded.request) c.args.loaded.text.now _ _ _ _
-    c.time_as_object.result c.time_as_object.ensures
+    c.time_as_object.result.done c.time_as_object.ensures
 
 pub returns-in-Answering-clause-watched : goal.returns-in-Answering-clause-watched
 returns-in-Answering-clause-watched g c =
@@ -46,7 +46,7 @@ returns-in-Answering-clause-watched g c =
 pub returns-in-Describing-clause-watched : goal.returns-in-Describing-clause-watched
 returns-in-Describing-clause-watched g c =
     watched_so g.T.Watch.Told _ _ c.args.doing (Describing c.in-Describing.subject) c.in-Describing.is
-    (asked_of c.args.loaded.request) c.told.result c.told.ensures.watched
+    (asked_of c.args.loaded.request) c.told.result.done c.told.ensures.watched
 
 pub returns-in-Timing-clause-watched : goal.returns-in-Timing-clause-watched
 returns-in-Timing-clause-watched g c =
@@ -56,7 +56,7 @@ returns-in-Timing-clause-watched g c =
 pub returns-in-TimingAsObject-clause-watched : goal.returns-in-TimingAsObject-clause-watched
 returns-in-TimingAsObject-clause-watched g c =
     watched_so g.T.Watch.Told _ _ c.args.doing TimingAsObject c.in-TimingAsObject.is (asked_of c.args.loaded.request)
-    c.time_as_object.result tt
+    c.time_as_object.result.done tt
 
 pub returns-in-Walking-clause-done : goal.returns-in-Walking-clause-done
 returns-in-Walking-clause-done g c =
@@ -76,19 +76,19 @@ returns-in-Walking-clause-watched g c =
 pub returns-in-Exploring-clause-done : goal.returns-in-Exploring-clause-done
 returns-in-Exploring-clause-done g c =
     does_so c.args.doing (Exploring c.in-Exploring.schedules) c.in-Exploring.is (asked_of c.args.loaded.request) c.args.loaded.text.now _ _ _ _
-    c.schedules_told.result c.schedules_told.ensures
+    c.schedules_told.result.done c.schedules_told.ensures
 
 pub returns-in-Exploring-clause-watched : goal.returns-in-Exploring-clause-watched
 returns-in-Exploring-clause-watched g c =
     watched_so g.T.Watch.Told _ _ c.args.doing (Exploring c.in-Exploring.schedules) c.in-Exploring.is (asked_of c.args.loaded.request)
-    c.schedules_told.result refl
+    c.schedules_told.result.done refl
 
 pub returns-in-Inspecting-clause-done : goal.returns-in-Inspecting-clause-done
 returns-in-Inspecting-clause-done g c =
     does_so c.args.doing Inspecting c.in-Inspecting.is (asked_of c.args.loaded.request) c.args.loaded.text.now _ _ _ _
-    c.inspected_told.result c.inspected_told.ensures
+    c.inspected_told.result.done c.inspected_told.ensures
 
 pub returns-in-Inspecting-clause-watched : goal.returns-in-Inspecting-clause-watched
 returns-in-Inspecting-clause-watched g c =
     watched_so g.T.Watch.Told _ _ c.args.doing Inspecting c.in-Inspecting.is (asked_of c.args.loaded.request)
-    c.inspected_told.result refl
+    c.inspected_told.result.done refl

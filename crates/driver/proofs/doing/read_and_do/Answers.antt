@@ -21,9 +21,9 @@ returns-clause-done g c =
     let same = sym c.as_str-text.ensures.value in
     let request = c.args.ordered.request in
     read_on_text c.args.ordered.doing (asked_of request) held _ _ _ _ _ c.in-Ok.ensures.keeps c.explained.ensures.keeps
-    (in_short c.explained.result) c.do_with-done.result c.explained.ensures.same text
+    (in_short c.explained.result) c.do_with-performed.result.done c.explained.ensures.same text
     (subst (HasText held request.file.now) same c.in-Ok.ensures.text)
-    (subst (λ (t : List ℕ). length t ≤ 1048576) same c.in-Ok.ensures.short) c.do_with-done.ensures.done
+    (subst (λ (t : List ℕ). length t ≤ 1048576) same c.in-Ok.ensures.short) c.do_with-performed.ensures.done
 
 pub returns-in-Err-clause-watched : goal.returns-in-Err-clause-watched
 returns-in-Err-clause-watched g c =
@@ -33,9 +33,9 @@ returns-in-Err-clause-watched g c =
 pub returns-clause-watched : goal.returns-clause-watched
 returns-clause-watched g c =
     let a = asked_of c.args.ordered.request in
-    let old = c.args.terminal.now in let new = c.do_with-done.new.terminal in
+    let old = c.args.terminal.now in let new = c.do_with-performed.new.terminal in
     subst (λ (r : Result ℕ Failure). WatchesDoing g.T.Watch.Told c.args.ordered.doing a r old new)
-    (sym c.explained.ensures.same) c.do_with-done.ensures.watched
+    (sym c.explained.ensures.same) c.do_with-performed.ensures.watched
 
 pub returns-clause-said : goal.returns-clause-said
 returns-clause-said g c =
