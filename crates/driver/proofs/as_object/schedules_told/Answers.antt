@@ -26,6 +26,6 @@ returns-in-Err g c =
     let fails = c.in-Err.ensures.why in
     record {
       done = object_refused (ObjectOfSchedules c.args.schedules s held text) (TellsUnexplored s held text)
-          (TellsFailure request.file.now text) _ _ c.in-Err.failure fails.why fails.early c.tell_explained.ensures.told;
-      keeps = c.tell_explained.ensures.keeps ∙ c.in-Err.ensures.keeps;
+          (TellsFailure request.file.now text) _ _ c.in-Err.failure fails.why fails.early c.tell_explained-explanation.ensures.told;
+      keeps = c.tell_explained-explanation.ensures.keeps ∙ c.in-Err.ensures.keeps;
     }

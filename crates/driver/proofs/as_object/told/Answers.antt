@@ -15,9 +15,9 @@ returns-in-Err-clause-done g c =
     let request = c.args.loaded.request in
     let s = settings request.settings in
     let text = c.args.loaded.text.now in
-    refusal_told c.args.subject request.file.now s text _ _ _ _ c.in-Err.failure c.in-Err.ensures.why c.tell_explained.ensures.told
+    refusal_told c.args.subject request.file.now s text _ _ _ _ c.in-Err.failure c.in-Err.ensures.why c.tell_explained-explanation.ensures.told
     (subst (λ (h : Held). Leaves (command_of c.args.subject) s text (g.F.FileSource.held c.args.files.now) h (Err c.in-Err.failure))
-    (sym c.tell_explained.ensures.keeps) c.in-Err.ensures.leaves)
+    (sym c.tell_explained-explanation.ensures.keeps) c.in-Err.ensures.leaves)
 
 pub returns-in-Ok-clause-watched : goal.returns-in-Ok-clause-watched
 returns-in-Ok-clause-watched g c =
