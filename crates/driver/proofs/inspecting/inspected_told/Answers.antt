@@ -26,6 +26,6 @@ returns-in-Err g c =
     let held = g.F.FileSource.held c.args.files.now in let text = c.args.loaded.text.now in
     record {
       done = object_refused (ObjectOfInspect request.file.now s held text) IsNotInspected (TellsFailure request.file.now text) _ _
-          NoMemory tt (λ is. cc is) c.tell_explained.ensures.told;
-      keeps = c.tell_explained.ensures.keeps ∙ c.object_of.ensures.keeps;
+          NoMemory tt (λ is. cc is) c.tell_explained-explanation.ensures.told;
+      keeps = c.tell_explained-explanation.ensures.keeps ∙ c.object_of.ensures.keeps;
     }
