@@ -1,7 +1,5 @@
-use Rattle.std.proofs.Common.{◌∙◌, ap, length, subst, sym, IsPermutation, List}
-use Rattle.std.proofs.lemmas.List.{with_items_is}
-use Rattle.std.proofs.lemmas.List.Sorted.{IsPermutation-refl}
-use Rattle.task_run.specs.declared.result.TaskResult.{TaskResult as Made}
+use Rattle.std.proofs.Common.{◌<◌, arith, length}
+use Rattle.std.proofs.lemmas.List.Sorted.{IsPermutation-refl, IsPermutation-swap}
 use Rattle.workers.proofs.ordering.swapped.Goals as goal
 
 pub returns-in-None : goal.returns-in-None
@@ -9,6 +7,7 @@ returns-in-None c = IsPermutation-refl c.args.results.now.items
 
 pub returns-in-Some : goal.returns-in-Some
 returns-in-Some c =
-    let v = c.args.results.now in let new = c.swap.new.self in let same = c.deref_mut.ensures.value in
-    subst (IsPermutation v.items) (sym (with_items_is v new (c.swap.ensures.len ∙ ap length same ∙ sym v.ok.0)))
-    (subst (λ (l : List Made). IsPermutation l new) same c.swap.ensures.permutation)
+    let v = c.args.results.now in
+    let from : c.args.at < length v.items = omega (arith, c.in-Some.ensures.from, c.len.ensures, v.ok.0) in
+    let to : c.in-Some.to < length v.items = omega (arith, c.in-Some.ensures.to, c.len.ensures, v.ok.0) in
+    IsPermutation-swap v.items c.swap.new.self.items c.args.at c.in-Some.to from to c.swap.ensures.items
