@@ -1,5 +1,5 @@
--- The faults that a second run has to show.
-use Rattle.std.specs.Prelude.{List, []}
+-- What a second run shows of an outcome.
+use Rattle.std.specs.Prelude.{◌≡◌, List, [], Option, None, ⊤}
 use Rattle.types.specs.Outcome.{Outcome, Ended}
 use Rattle.types.specs.Run.{Fault, Flow, On, Faulted, Stopped}
 use Rattle.statement_steps.specs.declared.store.Store.{Store}
@@ -20,3 +20,8 @@ abbrev pub faults_by : Flow → List Fault → List Fault
 faults_by Stopped faults = []
 faults_by On faults = faults
 faults_by Faulted faults = faults
+
+-- something that only a stopped run has
+abbrev pub OnlyIfStopped : {A : Type 0} → Outcome → Option A → Type 0
+OnlyIfStopped (Ended e) x = x ≡ None
+OnlyIfStopped Outcome.Stopped x = ⊤

@@ -2,16 +2,16 @@
 
 ghost use Rattle.std.specs.Prelude.{◌≡◌, length, map, take, IfOk};
 ghost use Rattle.types.specs.Contents.{FitsArrays};
-ghost use Rattle.types.specs.Outcome.{outcome as one_thread_outcome};
+ghost use Rattle.types.specs.Outcome.{Ending, outcome as one_thread_outcome, outcome_by};
 ghost use Rattle.types.specs.Translation.{fault as fault_of, input as lists_in};
 ghost use Rattle.types.specs.Translation.{budget as budget_of};
 ghost use Rattle.types.specs.Typed.{code_of};
 ghost use Rattle.statement_steps.specs.Standing.{flow as flow_of, state_of};
-ghost use Rattle.cost.specs.Kept.{printed};
-ghost use Rattle.run_explanations.specs.Seen.{faults_at, faults_by, faults_of};
+ghost use Rattle.cost.specs.Kept.{outcome_at, printed};
+ghost use Rattle.run_explanations.specs.Seen.{OnlyIfStopped, faults_at, faults_by, faults_of};
 
 use crate::notes::{MOST_FAULTS, RunNotes, TaskLimit};
-use crate::seen::{SeenRun, SurplusTask};
+use crate::seen::{Overrun, SeenRun, SurplusTask};
 use crate::steps::TaskSteps;
 use cost::kept::kept;
 use cost::machine::CostMachine;
@@ -42,6 +42,8 @@ pub fn seen_again(
         (one_thread_outcome (code_of typed.now) (lists_in input.now) (budget_of budget)))) }
     ensures many { IfOk result (λ s. s.many ≡ length (faults_of
         (one_thread_outcome (code_of typed.now) (lists_in input.now) (budget_of budget)))) }
+    ensures overrun { IfOk result (λ s. OnlyIfStopped
+        (one_thread_outcome (code_of typed.now) (lists_in input.now) (budget_of budget)) s.overrun) }
     ensures lines { IfOk result (λ s. map (λ line. line.items) s.lines.items
         ≡ take 10 (printed (code_of typed.now) (lists_in input.now) (budget_of budget))) }
     ensures printed { IfOk result (λ s. s.printed
@@ -56,6 +58,7 @@ pub fn seen_again(
 fn seen_at_end(alloc: Global, thread: Thread<Store>, notes: RunNotes) -> SeenRun
     ensures faults { map fault_of result.faults.items ≡ take 4 (faults_at thread) }
     ensures many { result.many ≡ length (faults_at thread) }
+    ensures overrun { OnlyIfStopped (outcome_at thread) result.overrun }
     ensures lines { map (λ line. line.items) result.lines.items ≡ take 10 (state_of thread).lines }
     ensures printed { result.printed ≡ length (state_of thread).lines }
 {
@@ -64,6 +67,7 @@ fn seen_at_end(alloc: Global, thread: Thread<Store>, notes: RunNotes) -> SeenRun
         overrun,
         ..
     } = notes;
+    let overrun = overrun_left(thread.flow, overrun);
     let mut lines = thread.lines;
     let printed = lines.len();
     lines.truncate(MOST_LINES);
@@ -87,6 +91,16 @@ fn faults_left(alloc: Global, flow: Flow, faults: Vec<Fault>) -> Vec<Fault>
     match flow {
         Flow::Stopped => Vec::new(alloc),
         Flow::On | Flow::Faulted => faults,
+    }
+}
+
+/// Returns the task over its budget that a run reports: none if it isn't stopped.
+fn overrun_left(flow: Flow, overrun: Option<Overrun>) -> Option<Overrun>
+    ensures { (e : Ending) → OnlyIfStopped (outcome_by (flow_of flow) e) result }
+{
+    match flow {
+        Flow::Stopped => overrun,
+        Flow::On | Flow::Faulted => None,
     }
 }
 
