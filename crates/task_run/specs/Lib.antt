@@ -23,3 +23,5 @@ pub mod Stops
 pub mod TaskKind
 pub mod Translation
 pub mod Worth
+pub mod InPlace
+pub mod WholeRuns

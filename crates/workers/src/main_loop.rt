@@ -1,6 +1,6 @@
 //! The workers of a run.
 
-ghost use Rattle.std.specs.Prelude.{◌≡◌, ◌+◌, ◌≤◌, ◌++◌, [], ◌∷◌, length, IfErr, IfOk, IfSome};
+ghost use Rattle.std.specs.Prelude.{ℕ, ◌≡◌, ◌+◌, ◌≤◌, ◌++◌, [], ◌∷◌, length, IfErr, IfOk, IfSome};
 ghost use Rattle.std.specs.Prelude.{OnOk, Option, Some};
 ghost use Rattle.types.specs.Translation.{outcome as outcome_in};
 ghost use Rattle.task_run.specs.Jobs.{outcome_of};
@@ -31,6 +31,7 @@ use finish_scope::inner::Inner;
 use finish_scope::resting::{Passing, Resting};
 use finish_scope::running::Running;
 use plain_code::pieces::ProgramCode;
+use serial_run::passing::Limit;
 use std::alloc::AllocError;
 use std::sync::{Arc, Mutex, Wait};
 use std::thread;
@@ -42,12 +43,30 @@ use weighted_task::finish::{Ending, Entering, Parked};
 use weighted_task::rooms::TaskRooms;
 use weighted_task::stake::ScopeMark;
 use weighted_task::task::{Child, Task};
-use weighted_task::turn::{WeightedResult as Ended, WeightedTurn};
+use weighted_task::turn::{WeightedResult as Ended, WeightedTurn, WholeChild};
 use weights::weight::Weight;
 use worker_threads::{Crew, Refused};
 
 /// The number of times that a worker looks for a task before it rests.
 const LOOKS: u32 = 64;
+
+/// A worker runs a task whole if at least this many others wait in its deque. Then the other
+/// workers have enough to take.
+const ENOUGH_WAITING: usize = 8;
+
+/// A whole run continues as long as the run of all workers isn't over, and begins at most this many
+/// asyncs.
+#[derive(Drop)]
+struct WhileRunning<'a, 'p, J: Running> {
+    pool: &'a Pool<'p, J>,
+    most: u64,
+}
+
+impl<'a, 'p, J: Running> Limit for WhileRunning<'a, 'p, J> {
+    fn allows(&self, begun: u64) -> bool {
+        begun <= self.most && !self.pool.is_over()
+    }
+}
 
 /// The state that the workers of a run share.
 #[derive(Drop)]
@@ -479,16 +498,124 @@ impl<'p, J: Running + Recording, G: Gate> Shared<'p, J, G> {
         ensures failed { IfErr result
             (Fails J.job self.now.tickets self.now.settings.tasks state.new.seat) }
         ensures outcome { IfOk result (λ o. IfSome o (λ x. outcome_in x ≡ outcome_of self.now.job)) }
-        ensures drawn { OnOk result (DrawsForEach 0 state.old.seat state.new.seat
+        ensures drawn { OnOk result ((begun : ℕ) × DrawsForEach begun state.old.seat state.new.seat
             (put_into tasks.old.own) (put_into tasks.new.own)) }
     {
         let from = ready.from();
+        let (child, mut open_scopes) = ready.begin();
+        if self.may_run_whole(state, tasks, &child) {
+            return self.run_whole(rt, state, tasks, &mut open_scopes, child);
+        }
+        self.run_apart(rt, state, tasks, &mut open_scopes, child, from)
+    }
+
+    /// Runs a spawned task from its start, with each task below it apart.
+    fn run_apart<R: Wait>(
+        &self,
+        rt: &R,
+        state: &mut WorkerAtWork<'p>,
+        tasks: &mut Tasks<'p, J>,
+        open_scopes: &mut OpenScopes<'p, J>,
+        child: Child<'p>,
+        from: usize,
+    ) -> Result<Option<Outcome>, RunError>
+        requires child { IsOwnChild J.job child }
+        requires seat { HasSeat self.now.tickets self.now.settings.tasks state.old.seat }
+        ensures seat { OnOk result
+            (HasSeat self.now.tickets self.now.settings.tasks state.new.seat) }
+        ensures failed { IfErr result
+            (Fails J.job self.now.tickets self.now.settings.tasks state.new.seat) }
+        ensures outcome { IfOk result (λ o. IfSome o (λ x. outcome_in x ≡ outcome_of self.now.job)) }
+        ensures drawn { OnOk result (DrawsForEach 0 state.old.seat state.new.seat
+            (put_into tasks.old.own) (put_into tasks.new.own)) }
+    {
         let mut log_guard = self.hold(rt);
-        let (task, mut open_scopes) = ready.begin(&mut state.rooms)?;
+        let task = child.begin(&mut state.rooms)?;
         note_taken::<J>(&mut log_guard, state.number, from, &task);
         drop(log_guard);
         self.let_in(&task);
-        self.go_on(rt, state, tasks, &mut open_scopes, task)
+        self.go_on(rt, state, tasks, open_scopes, task)
+    }
+
+    /// Returns whether a spawned task may run whole: nobody observes the tasks below it, and nobody
+    /// would take them, because other tasks wait. A plain body has no tasks below it.
+    fn may_run_whole(
+        &self,
+        state: &WorkerAtWork<'p>,
+        tasks: &mut Tasks<'p, J>,
+        child: &Child<'p>,
+    ) -> bool
+        ensures { tasks.new ≡ tasks.old }
+    {
+        if J::is_recorded() || G::observes_all() {
+            return false;
+        }
+        match self.code.lend().body(child.start.label) {
+            None => false,
+            Some(body) => {
+                body.is_plain || (state.runs_whole && tasks.own.len() >= ENOUGH_WAITING)
+            }
+        }
+    }
+
+    /// Runs a spawned task whole. It draws a ticket for each async that was begun in place.
+    fn run_whole<R: Wait>(
+        &self,
+        rt: &R,
+        state: &mut WorkerAtWork<'p>,
+        tasks: &mut Tasks<'p, J>,
+        open_scopes: &mut OpenScopes<'p, J>,
+        child: Child<'p>,
+    ) -> Result<Option<Outcome>, RunError>
+        requires child { IsOwnChild J.job child }
+        requires seat { HasSeat self.now.tickets self.now.settings.tasks state.old.seat }
+        ensures seat { OnOk result
+            (HasSeat self.now.tickets self.now.settings.tasks state.new.seat) }
+        ensures failed { IfErr result
+            (Fails J.job self.now.tickets self.now.settings.tasks state.new.seat) }
+        ensures outcome { IfOk result (λ o. IfSome o (λ x. outcome_in x ≡ outcome_of self.now.job)) }
+        ensures drawn { OnOk result ((begun : ℕ) × DrawsForEach begun state.old.seat state.new.seat
+            (put_into tasks.old.own) (put_into tasks.new.own)) }
+    {
+        let limit = WhileRunning {
+            pool: &self.pool,
+            most: self.settings.tasks,
+        };
+        match child.run_whole(self.code.lend(), &limit, &mut state.rooms)? {
+            WholeChild::Made(ended, begun) => {
+                self.draw_all(state, begun)?;
+                match self.end(rt, state.number, open_scopes, ended)? {
+                    Next::Goes(task) => self.go_on(rt, state, tasks, open_scopes, task),
+                    Next::Idle => Ok(None),
+                    Next::Told(outcome) => Ok(Some(outcome)),
+                }
+            }
+            WholeChild::Cut(begun) => {
+                self.draw_all(state, begun)?;
+                Ok(None)
+            }
+            WholeChild::Again(child) => {
+                state.runs_whole = false;
+                let from = state.number;
+                self.run_apart(rt, state, tasks, open_scopes, child, from)
+            }
+        }
+    }
+
+    /// Draws this many tickets.
+    fn draw_all(&self, state: &mut WorkerAtWork<'p>, number: u64) -> Result<(), RunError>
+        requires seat { HasSeat self.now.tickets self.now.settings.tasks state.old.seat }
+        ensures seat { OnOk result
+            (HasSeat self.now.tickets self.now.settings.tasks state.new.seat) }
+        ensures failed { IfErr result
+            (Fails J.job self.now.tickets self.now.settings.tasks state.new.seat) }
+        ensures count { OnOk result (length (drawn_of state.new.seat)
+            ≡ length (drawn_of state.old.seat) + number) }
+    {
+        for _ in 0..number {
+            self.draw(state)?;
+        }
+        Ok(())
     }
 
     /// Lends a task to the gate before its first turn.
@@ -692,6 +819,7 @@ impl<'p, J: Running + Recording + Send + Sync, G: Gate + Sync> Crew for Shared<'
             parker,
             seat,
             rooms: TaskRooms::new(self.job.alloc),
+            runs_whole: true,
         };
         let told = self.main_loop(rt, &mut state, &mut tasks, first);
         let silent = match &told {
