@@ -2,7 +2,8 @@
 use Rattle.std.specs.Prelude.{ℕ, ◌≡◌, ◌≢◌, ◌+◌, ◌/◌, ◌≤◌, [], ◌∷◌, ◌++◌, length, Some, None}
 use Rattle.effects.specs.Rounds.{needs_of}
 use Rattle.task_run.specs.MayRun.{MayStart}
-use Rattle.task_run.specs.RunTurns.{GoesUpTo, IsEnding, IsStep, IsTurn, StepsUpTo, turn_of}
+use Rattle.task_run.specs.RunTurns.{DoneSpawns, GoesUpTo, IsEnding, IsStep, IsTurn, StepsUpTo}
+use Rattle.task_run.specs.RunTurns.{turn_of}
 use Rattle.task_run.specs.RunTurns.{IsAtEnd as IsRunAtEnd}
 use Rattle.task_run.specs.Translation.{start}
 use Rattle.task_run.specs.declared.result.TaskResult.{TaskResult as Made}
@@ -17,7 +18,7 @@ use Rattle.task_run.specs.declared.turn.Turn.TheVariants.{EndsFinish as RunEndsF
 use Rattle.task_run.specs.declared.turn.Turn.TheVariants.{Ended as RunEnded, Over as RunOver}
 use Rattle.task_run.specs.Jobs.{program_of, lists_of, budget_of, IsJob}
 use Rattle.weighted_task.specs.Ends.{IsParked}
-use Rattle.weighted_task.specs.Tasks.{GoesBy, IsBody, IsTask, IsChild, IsOfAsync, IsResultOf}
+use Rattle.weighted_task.specs.Tasks.{GoesBy, IsAsyncOf, IsBody, IsTask, IsChild, IsOfAsync, IsResultOf}
 use Rattle.weighted_task.specs.declared.finish.Ending.{Ending}
 use Rattle.weighted_task.specs.declared.finish.Owner.{Owner}
 use Rattle.weighted_task.specs.declared.finish.Owner.TheVariants.{Main, Finish}
@@ -133,6 +134,7 @@ pub record HasDone (b : Body) (d : Done) : Type 0 where
   pub after : Run
   pub has : b.run ≡ Some after
   pub turn : IsTurn (needs_of (program_of b.job)) run (turn_of after d)
+  pub label : DoneSpawns (IsAsyncOf b) d
 
 -- it is at the end of a finish, or has finished
 pub record RunsToEnd (b : Body) : Type 0 where

@@ -2,7 +2,7 @@
 
 ghost use Rattle.std.specs.Prelude.{◌≡◌, ◌+◌, ◌<◌, IfOk, Some};
 ghost use Rattle.plain_code.specs.Pieces.{IsCodeOfProgram};
-ghost use Rattle.task_run.specs.RunTurns.{DoneSpawns, StepSpawns, turn_of};
+ghost use Rattle.task_run.specs.RunTurns.{StepSpawns, turn_of};
 ghost use Rattle.task_run.specs.declared.run.Run.{Run as AnyRun};
 ghost use Rattle.task_run.specs.declared.turn.Turn.TheVariants.{Ended};
 ghost use Rattle.task_run.specs.Jobs.{program_of};
@@ -101,7 +101,6 @@ fn did<'p>(
     done: Done<'p>,
 ) -> Result<WeightedTurn<'p>, AllocError>
     requires done { HasDone body.value done }
-    requires label { DoneSpawns (IsAsyncOf body.value) done }
     ensures becomes { IfOk result (λ t. (r : AnyRun) → body.entry.value.run ≡ Some r
         → Becomes (turning body.entry.value) share.weight (turn_of r done.entry) t) }
     ensures tasks { IfOk result AreTasks }

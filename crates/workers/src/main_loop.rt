@@ -3,7 +3,7 @@
 ghost use Rattle.std.specs.Prelude.{ℕ, ◌≡◌, ◌+◌, ◌≤◌, ◌++◌, [], ◌∷◌, length, IfErr, IfOk, IfSome};
 ghost use Rattle.std.specs.Prelude.{OnOk, Option, Some};
 ghost use Rattle.types.specs.Translation.{outcome as outcome_in};
-ghost use Rattle.task_run.specs.Jobs.{outcome_of};
+ghost use Rattle.task_run.specs.Jobs.{IsJob, outcome_of};
 ghost use Rattle.finish_scope.specs.Own.{IsOwnPassing};
 ghost use Rattle.tickets.specs.Seats.{drawn_of, id_of};
 ghost use Rattle.worker_threads.specs.DequeEnds.{put_into};
@@ -31,7 +31,8 @@ use finish_scope::inner::Inner;
 use finish_scope::resting::{Passing, Resting};
 use finish_scope::running::Running;
 use plain_code::pieces::ProgramCode;
-use serial_run::passing::Limit;
+use serial_run::passing::{Limit, Most};
+use serial_run::programs::serial_within;
 use std::alloc::AllocError;
 use std::sync::{Arc, Mutex, Wait};
 use std::thread;
@@ -50,8 +51,8 @@ use worker_threads::{Crew, Refused};
 /// The number of times that a worker looks for a task before it rests.
 const LOOKS: u32 = 64;
 
-/// A worker runs a task whole if at least this many others wait in its deque. Then the other
-/// workers have enough to take.
+/// A task runs whole if at least this many others waited in the deque when it was put there. The
+/// other workers take those first, because they are older.
 const ENOUGH_WAITING: usize = 8;
 
 /// A whole run continues as long as the run of all workers isn't over, and begins at most this many
@@ -80,6 +81,7 @@ pub struct Shared<'p, J: Running, G: Gate> {
     pub log: Option<LockedLog<'p, J>>,
     pub ghost of: { J.job ≡ Some job },
     pub ghost word: { J.word ≡ Some (id_of tickets) },
+    pub ghost ok: { IsJob job },
 }
 
 impl<'p, J: Running + Recording, G: Gate> Shared<'p, J, G> {
@@ -248,10 +250,9 @@ impl<'p, J: Running + Recording, G: Gate> Shared<'p, J, G> {
         ensures cause { IfErr result (Happens J.job) }
     {
         let scope = Arc::try_clone(&open_scopes.scope)?;
-        match tasks
-            .own
-            .push(Ready::new(child, scope, open_scopes.place, number, stub))
-        {
+        let is_spare = tasks.own.len() >= ENOUGH_WAITING;
+        let ready = Ready::new(child, scope, open_scopes.place, number, stub, is_spare);
+        match tasks.own.push(ready) {
             Ok(()) => {
                 self.pool.wake();
                 Ok(())
@@ -459,6 +460,45 @@ impl<'p, J: Running + Recording, G: Gate> Shared<'p, J, G> {
         unreachable!()
     }
 
+    /// Runs the program on one thread, if there is no other worker and nobody observes the tasks. It
+    /// draws a ticket for the root and for each async. Returns None if the asyncs are too many, or if
+    /// a task is over its budget: on one thread everything stops then, but tasks apart go on.
+    fn run_alone(&self, state: &mut WorkerAtWork<'p>) -> Result<Option<Outcome>, RunError>
+        requires seat { HasSeat self.now.tickets self.now.settings.tasks state.old.seat }
+        ensures seat { OnOk result
+            (HasSeat self.now.tickets self.now.settings.tasks state.new.seat) }
+        ensures failed { IfErr result
+            (Fails J.job self.now.tickets self.now.settings.tasks state.new.seat) }
+        ensures outcome { IfOk result (λ o. IfSome o (λ x. outcome_in x ≡ outcome_of self.now.job)) }
+    {
+        if self.settings.workers > 1 || J::is_recorded() || G::observes_all() {
+            return Ok(None);
+        }
+        match self.on_one_thread()? {
+            None => Ok(None),
+            Some((outcome, begun)) => {
+                self.draw_all(state, begun.saturating_add(1))?;
+                Ok(Some(outcome))
+            }
+        }
+    }
+
+    /// Runs the program on one thread. Returns its outcome and the number of asyncs that were begun,
+    /// unless they are too many or the program is stopped.
+    fn on_one_thread(&self) -> Result<Option<(Outcome, u64)>, AllocError>
+        ensures { IfOk result (λ r. IfSome r (λ t. outcome_in t.0 ≡ outcome_of self.now.job)) }
+    {
+        let limit = Most(self.settings.tasks);
+        let codes = &self.code.lend().codes;
+        match serial_within(self.job.plan(), codes, self.job.input, &limit)? {
+            None => Ok(None),
+            Some((outcome, begun)) => match outcome {
+                Outcome::Stopped => Ok(None),
+                outcome => Ok(Some((outcome, begun))),
+            },
+        }
+    }
+
     /// Runs the root from its start. It draws the first ticket.
     fn run_first<R: Wait>(
         &self,
@@ -502,8 +542,9 @@ impl<'p, J: Running + Recording, G: Gate> Shared<'p, J, G> {
             (put_into tasks.old.own) (put_into tasks.new.own)) }
     {
         let from = ready.from();
+        let is_spare = ready.is_spare();
         let (child, mut open_scopes) = ready.begin();
-        if self.may_run_whole(state, tasks, &child) {
+        if self.may_run_whole(state, is_spare, &child) {
             return self.run_whole(rt, state, tasks, &mut open_scopes, child);
         }
         self.run_apart(rt, state, tasks, &mut open_scopes, child, from)
@@ -537,24 +578,15 @@ impl<'p, J: Running + Recording, G: Gate> Shared<'p, J, G> {
         self.go_on(rt, state, tasks, open_scopes, task)
     }
 
-    /// Returns whether a spawned task may run whole: nobody observes the tasks below it, and nobody
-    /// would take them, because other tasks wait. A plain body has no tasks below it.
-    fn may_run_whole(
-        &self,
-        state: &WorkerAtWork<'p>,
-        tasks: &mut Tasks<'p, J>,
-        child: &Child<'p>,
-    ) -> bool
-        ensures { tasks.new ≡ tasks.old }
-    {
+    /// Returns whether a spawned task may run whole: nobody observes the tasks below it, and the
+    /// other workers have enough to take without them. A plain body has no tasks below it.
+    fn may_run_whole(&self, state: &WorkerAtWork<'p>, is_spare: bool, child: &Child<'p>) -> bool {
         if J::is_recorded() || G::observes_all() {
             return false;
         }
         match self.code.lend().body(child.start.label) {
             None => false,
-            Some(body) => {
-                body.is_plain || (state.runs_whole && tasks.own.len() >= ENOUGH_WAITING)
-            }
+            Some(body) => body.is_plain || (is_spare && state.runs_whole),
         }
     }
 
@@ -674,6 +706,9 @@ impl<'p, J: Running + Recording, G: Gate> Shared<'p, J, G> {
     {
         tasks.thieves = self.pool.thieves(self.job.alloc, state.number)?;
         if let Some(first) = first {
+            if let Some(outcome) = self.run_alone(state)? {
+                return Ok(Some(outcome));
+            }
             if let Some(outcome) = self.run_first(rt, state, tasks, first)? {
                 return Ok(Some(outcome));
             }

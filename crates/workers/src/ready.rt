@@ -24,6 +24,8 @@ pub struct Ready<'p, J: Running> {
     from: usize,
     /// The ticket, which has no bytes here.
     stub: Stub,
+    /// Whether enough others waited in the deque when it was put there.
+    is_spare: bool,
 }
 
 impl<'p, J: Running> Model for Ready<'p, J> {
@@ -39,13 +41,14 @@ impl<'p, J: Running> Model for Ready<'p, J> {
 
 impl<'p, J: Running> Ready<'p, J> {
     /// Returns a task that the worker numbered `from` spawned in the scope at this position, with its
-    /// ticket.
+    /// ticket. `is_spare` says whether enough others wait.
     pub fn new(
         child: Child<'p>,
         scope: Arc<Scope<'p, J>>,
         place: ScopePosition,
         from: usize,
         stub: Stub,
+        is_spare: bool,
     ) -> Ready<'p, J>
         requires own { IsOwnChild J.job child }
         requires drawn { IsOwnStub J.word stub }
@@ -57,12 +60,18 @@ impl<'p, J: Running> Ready<'p, J> {
             place,
             from,
             stub,
+            is_spare,
         }
     }
 
     /// Returns the number of the worker that spawned it.
     pub fn from(&self) -> usize {
         self.from
+    }
+
+    /// Returns whether enough other tasks waited when it was put into the deque.
+    pub fn is_spare(&self) -> bool {
+        self.is_spare
     }
 
     /// Returns the task, and its scopes. Its ticket is used up.

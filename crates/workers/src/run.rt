@@ -29,9 +29,7 @@ use crate::word::{Terms, Word};
 use finish_scope::running::Running;
 use plain_code::pieces::ProgramCode;
 use race_checker::accepted::Accepted;
-use serial_run::passing::Most;
-use serial_run::programs::serial_within;
-use std::alloc::{AllocError, Global};
+use std::alloc::Global;
 use std::marker::Brand;
 use std::sync::Wait;
 use std::thread::Threads;
@@ -41,7 +39,6 @@ use trace::log::Log;
 use trace_numbers::counts::spawns;
 use types::input::Input;
 use types::laws::typed_programs_are_sound;
-use types::outcome::Outcome;
 use worker_threads::{CrewError, work_together};
 
 /// Runs a program on an input, on as many workers as the settings specify, with one task per
@@ -120,65 +117,7 @@ pub fn run_with<'p, G: Gate + Sync, R: Threads + Wait + Sync>(
 {
     typed_programs_are_sound(job.accepted.typed());
     let code: ProgramCode<'p> = ProgramCode::of(job.alloc, job.accepted.typed())?;
-    if settings.workers == 1 && log.is_none() && !G::observes_all() {
-        if let Some((outcome, begun)) = alone(job, &code, settings)? {
-            let finished = with_tickets(settings, word, outcome, begun)?;
-            return Ok((finished, None));
-        }
-    }
     run_as::<Brand, G, R>(rt, job, code, Terms { settings, word }, gate, log)
-}
-
-/// Runs a program on one thread, with the body of each async in place. Returns the outcome and the
-/// number of asyncs that were begun. Returns None if they are too many, or if a task is over its
-/// budget: then other tasks may still begin asyncs.
-fn alone<'p>(
-    job: Job<'p>,
-    code: &ProgramCode<'p>,
-    settings: Settings,
-) -> Result<Option<(Outcome, u64)>, AllocError>
-    requires job { IsJob job }
-    requires code { IsCodeOfProgram (program_of job) code.now }
-    ensures { IfOk result (λ r. IfSome r (λ t. outcome_in t.0 ≡ outcome_of job.entry)) }
-{
-    let told = serial_within(job.plan(), &code.codes, job.input, &Most(settings.tasks))?;
-    match told {
-        None => Ok(None),
-        Some((outcome, begun)) => match outcome {
-            Outcome::Stopped => Ok(None),
-            ended => Ok(Some((ended, begun))),
-        },
-    }
-}
-
-/// Returns what a run on one thread returns. The root draws a ticket, and each async that was begun.
-fn with_tickets(
-    settings: Settings,
-    word: Word,
-    outcome: Outcome,
-    begun: u64,
-) -> Result<Finished, RunError>
-    requires word { IsFreshWord settings.workers word }
-    requires one { settings.workers ≡ 1 }
-    ensures outcome { IfOk result (λ f. f.outcome ≡ outcome) }
-    ensures drawn { IfOk result (λ f. AreAllOf word.tickets f.tasks) }
-    ensures tasks { IfOk result (λ f. f.tasks.number ≤ settings.tasks) }
-    ensures failed { IfErr result (HasTicketFrom word.tickets) }
-{
-    let Word { tickets, mut seats } = word;
-    let Some(mut seat) = seats.pop() else {
-        unreachable!()
-    };
-    for _ in 0..=begun {
-        let ticket = tickets.draw(&mut seat);
-        if ticket.number() >= settings.tasks {
-            return Err(RunError::TooManyTasks(ticket));
-        }
-    }
-    seats.reserve(1)?;
-    seats.push_reserved(seat);
-    let tasks = tickets.close(seats);
-    Ok(Finished { outcome, tasks })
 }
 
 /// Runs a program once the job is picked. A run without a log is of another type than one with a log.
