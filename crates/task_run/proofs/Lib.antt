@@ -44,3 +44,4 @@ pub mod TurnsBelong
 pub mod TurnsResume
 pub mod TurnsToCome
 pub mod Windows
+pub mod WholeRuns

@@ -1,5 +1,5 @@
 -- What a whole run of a task in Rust comes to.
-use Rattle.std.specs.Prelude.{ℕ, ◌≡◌, ◌≤◌, [], length, Some}
+use Rattle.std.specs.Prelude.{ℕ, ◌≡◌, ◌<◌, ◌≤◌, [], length, Some}
 use Rattle.types.specs.Code.{Codes, Program}
 use Rattle.types.specs.Meaning.{one}
 use Rattle.types.specs.Run.{Block, State}
@@ -22,9 +22,12 @@ use Rattle.task_run.specs.declared.start.Start.{Start as rStart}
 use Rattle.task_run.specs.declared.whole.WholeRun.{WholeRun}
 use Rattle.task_run.specs.declared.whole.WholeRun.TheVariants.{Made, Cut, Again}
 
--- the code of a start's body, for which its environment is small enough
+-- the code of a start's body, with room for its environment
 pub record FitsBody (c : ProgramCode) (s : rStart) (b : BodyCode) : Type 0 where
   pub body : Some b ≡ body_of c s.label
+  pub there : b.number < length c.codes.items
+  pub flat : Flat
+  pub read : code_at c b.number flat
   pub scalars : (f : Flat) → code_at c b.number f → length s.environment.scalars.items ≤ f.limits.scalars
   pub sections : (f : Flat) → code_at c b.number f → length s.environment.windows.items ≤ f.limits.sections
 
@@ -52,7 +55,6 @@ module _ (p : Program) (fresh : ℕ) (s : rStart) where
   pub record IsSame (t : rStart) : Type 0 where
     pub start : start t ≡ start s
     pub label : t.label ≡ s.label
-    pub nest : t.nest ≡ s.nest
 
   -- the result of a task that ran whole is what one thread has made at its end, if that counts; a task
   -- that is to run in another way is at its start

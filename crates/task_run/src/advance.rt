@@ -486,7 +486,7 @@ fn turned<'p>(run: Run<'p>, done: Done<'p>) -> Turn<'p>
 }
 
 /// Returns whether the flow is stopped.
-fn is_stopped(flow: Flow) -> bool
+pub(crate) fn is_stopped(flow: Flow) -> bool
     ensures { result ≡ stops_all (flow_of flow) }
 {
     match flow {

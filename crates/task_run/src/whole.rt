@@ -1,6 +1,6 @@
 //! Tasks that run whole: with all tasks below them in place, in the order of one thread.
 
-ghost use Rattle.std.specs.Prelude.{◌≡◌, ◌<◌, length, IfOk, IfSome};
+ghost use Rattle.std.specs.Prelude.{◌≡◌, IfOk, IfSome};
 ghost use Rattle.types.specs.Code.{Async};
 ghost use Rattle.types.specs.Translation.{codes as codes_of, program as program_of};
 ghost use Rattle.effects.specs.Statements.{HasStatement};
@@ -11,6 +11,7 @@ ghost use Rattle.task_run.specs.Standings.{state_of};
 ghost use Rattle.task_run.specs.Translation.{owned_by, task_result};
 ghost use Rattle.task_run.specs.WholeRuns.{EndsBody, FitsBody, RunsWhole, result_by};
 
+use crate::advance::is_stopped;
 use crate::memory::TaskMemory;
 use crate::result::TaskResult;
 use crate::rooms::Rooms;
@@ -38,7 +39,7 @@ impl<'p> Start<'p> {
     /// Runs the task with all tasks below it in place, by the flat code of its body.
     ///
     /// On one thread, everything stops as soon as a task is over its budget, but tasks apart go on.
-    /// So a run that stops isn't kept, unless the body is plain. It runs on a copy of the start.
+    /// So a run that stops isn't kept, unless the body is plain. Then a copy of the start is left.
     pub fn run_whole<L: Limit>(
         self,
         plan: Plan<'p>,
@@ -64,10 +65,10 @@ impl<'p> Start<'p> {
                 Limited::Cut(begun) => Ok(WholeRun::Cut(begun)),
             };
         }
-        let copy = self.clone(plan.alloc)?;
-        match copy.run_by(plan, code, body, limit)? {
+        let kept = self.clone(plan.alloc)?;
+        match self.run_by(plan, code, body, limit)? {
             Limited::Done(thread, begun) => match thread.flow {
-                Flow::Stopped => Ok(WholeRun::Again(self)),
+                Flow::Stopped => Ok(WholeRun::Again(kept)),
                 Flow::On | Flow::Faulted => Ok(WholeRun::Made(
                     made(plan.alloc, thread, rooms),
                     begun,
@@ -81,8 +82,12 @@ impl<'p> Start<'p> {
     fn fitting_body(&self, code: &ProgramCode<'p>) -> Option<BodyCode>
         ensures { IfSome result (FitsBody code.now self.now) }
     {
-        let body = code.body(self.label)?;
-        let flat = code.codes.get(body.number)?;
+        let Some(body) = code.body(self.label) else {
+            return None;
+        };
+        let Some(flat) = code.codes.get(body.number) else {
+            return None;
+        };
         if has_room_for(flat, &self.environment) {
             Some(body)
         } else {
@@ -99,7 +104,6 @@ impl<'p> Start<'p> {
         limit: &L,
     ) -> Result<Limited<TaskMemory>, AllocError>
         requires codes { AreCodes (program_of plan.program.now) code.now.codes.items }
-        requires there { body.number < length code.now.codes.items }
         requires fits { FitsBody code.now self body }
         ensures { IfOk result (IfDone (EndsBody (program_of plan.entry.program.now)
             plan.entry.budget.steps code.now body self.entry)) }
@@ -126,10 +130,7 @@ impl<'p> Start<'p> {
 fn made(alloc: Global, thread: Thread<TaskMemory>, rooms: &mut Rooms<'_>) -> TaskResult
     ensures { task_result result ≡ result_by (state_of thread) (owned_by thread.store.holdings) }
 {
-    let stopped = match thread.flow {
-        Flow::Stopped => true,
-        Flow::On | Flow::Faulted => false,
-    };
+    let stopped = is_stopped(thread.flow);
     rooms.keep_environment(thread.environment);
     TaskResult {
         path: thread.path,
