@@ -644,8 +644,10 @@ impl<'p, J: Running + Recording, G: Gate> Shared<'p, J, G> {
         ensures count { OnOk result (length (drawn_of state.new.seat)
             ≡ length (drawn_of state.old.seat) + number) }
     {
-        for _ in 0..number {
+        let mut left = number;
+        'tickets: while left > 0 {
             self.draw(state)?;
+            left -= 1;
         }
         Ok(())
     }
