@@ -43,4 +43,5 @@ pub mod TurnsLeft
 pub mod TurnsBelong
 pub mod TurnsResume
 pub mod TurnsToCome
+pub mod WholeTasks
 pub mod Windows

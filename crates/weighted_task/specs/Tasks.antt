@@ -3,7 +3,7 @@ use Rattle.std.specs.Prelude.{ℕ, ◌≡◌, ◌+◌, ◌≤◌, List, length, 
 use Rattle.types.specs.Translation.{program}
 use Rattle.task_run.specs.MayRun.{MayRun, MayStart}
 use Rattle.task_run.specs.Reached.{begun}
-use Rattle.task_run.specs.Runs.{root, IsTaskResult}
+use Rattle.task_run.specs.Runs.{root, IsMadeByTask}
 use Rattle.task_run.specs.Standings.{IsAt}
 use Rattle.task_run.specs.Translation.{start, task_result}
 use Rattle.task_run.specs.declared.result.TaskResult.{TaskResult as Made}
@@ -41,9 +41,9 @@ pub record IsChild (c : Child) : Type 0 where
   pub job : IsJob c.job
   pub may : MayStart (program_of c.job) (lists_of c.job) (budget_of c.job) (start c.start.value)
 
--- a result is that of a task of the job
+-- a task of the job has made this result
 abbrev pub IsResultOf : Job → Made → Type 0
-IsResultOf j made = IsTaskResult (program_of j) (lists_of j) (budget_of j) (task_result made)
+IsResultOf j made = IsMadeByTask (program_of j) (lists_of j) (budget_of j) (task_result made)
 
 -- a task before its first turn, in this scope
 pub record IsFirst (j : Job) (r : Run) (at : ScopeMark) (b : Body) : Type 0 where
