@@ -40,7 +40,7 @@ use Rattle.task_run.proofs.Simulation.{nowhere, unlocked_ready, begins, within_s
 use Rattle.task_run.proofs.StaysStopped.{begin_marks}
 
 -- a result that lists no child
-alone : Start → (stopped : Bool) → Contents → List (List ℤ) → List Fault → TaskResult
+abbrev alone : Start → (stopped : Bool) → Contents → List (List ℤ) → List Fault → TaskResult
 alone s stopped c ls fs = record {
   path = s.path;
   stopped = stopped;
@@ -55,7 +55,7 @@ alone s stopped c ls fs = record {
 module _ (p : Program) (needs : Codes → Needs) (scoped : IsScoped p) (calm : IsCalm p) (provided : Provides p needs) (fresh : ℕ)
     (s : Start) (may : MayBegin p needs s) where
   -- its surroundings, if it has all places and may write all of them
-  around : Around
+  abbrev around : Around
   around = record {
     scope = may.stack.0;
     env = may.stack.1;
@@ -65,7 +65,7 @@ module _ (p : Program) (needs : Codes → Needs) (scoped : IsScoped p) (calm : I
   }
 
   -- what its body leaves pending
-  left : Place → Type 0
+  abbrev left : Place → Type 0
   left = Overwrites may.stack.1 (Pending p accesses s.body)
 
   ready : Ready p needs around nowhere left s.body
@@ -90,7 +90,7 @@ module _ (p : Program) (needs : Codes → Needs) (scoped : IsScoped p) (calm : I
   }
 
   -- the task, with all tasks below it apart
-  tasks : A
+  abbrev tasks : A
   tasks = apart p needs fresh s.nest (Block s.body) (beginning nothing fresh s)
 
   both_end : Agree around left (in_place p fresh s) tasks
@@ -119,7 +119,7 @@ module _ (p : Program) (needs : Codes → Needs) (scoped : IsScoped p) (calm : I
 
 -- ---- a task with a plain body
 module _ (p : Program) (needs : Codes → Needs) (fresh : ℕ) (s : Start) (plain : IsPlainWork p (Block s.body)) where
-  begun : State Own
+  abbrev begun : State Own
   begun = beginning (at_first s.owned) fresh s
 
   means : IsAsOnOne (notes Step) begun (own p needs fresh s) (in_place p fresh s)

@@ -5,7 +5,7 @@ use Rattle.types.specs.Outcome.{Budget}
 use Rattle.effects.specs.Rounds.{needs_of}
 use Rattle.task_run.specs.Results.{TaskResult, Settled}
 use Rattle.task_run.specs.OwnRun.{Start, Own, result_of}
-use Rattle.task_run.specs.Given.{own, comes_to, below, IsOwn, root_of}
+use Rattle.task_run.specs.Given.{own, comes_to, below, root_of}
 use Rattle.task_run.specs.InPlace.{IsMade}
 use Rattle.task_run.specs.Frames.{Standing}
 use Rattle.task_run.specs.Reached.{Reached, IsResult, IsWholeOrEnded, CanSettle, CanEnd}
@@ -26,10 +26,6 @@ module _ (p : Program) (input : List (List ℤ)) (b : Budget) where
   -- the results of all tasks below the root
   abbrev pub all_results : List TaskResult
   all_results = below p (needs_of p) b.steps b.nest root
-
-  -- a result is the result of the own run of its path's task
-  abbrev pub IsOwnResult : TaskResult → Type 0
-  IsOwnResult = IsOwn p (needs_of p) b.steps root
 
   -- a result is made from the start of its path's task, by its own run or whole
   abbrev pub IsMadeResult : TaskResult → Type 0
