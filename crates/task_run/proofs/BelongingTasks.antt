@@ -11,7 +11,6 @@ use Rattle.types.specs.Code.{Code, Do, If, While, Split, Parts, Begun, Call, Asy
 use Rattle.types.specs.Code.{Program}
 use Rattle.types.specs.Contents.{FitsArrays}
 use Rattle.types.specs.Outcome.{Budget}
-use Rattle.types.specs.Run.{State}
 use Rattle.effects.specs.Needs.{Needs, Provides}
 use Rattle.effects.specs.Rounds.{needs_of}
 use Rattle.effects.specs.Sound.{IsSound}

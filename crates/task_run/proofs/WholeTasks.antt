@@ -1,12 +1,12 @@
 -- One thread that runs a task and all tasks below it in place makes the whole of the task.
-use Rattle.std.proofs.Common.{◌≡◌, ℕ, zero, suc, ◌+◌, List, [], ◌∷◌, Some, refl, sym, ap, ◌∙◌, inl, inr}
+use Rattle.std.proofs.Common.{◌≡◌, ℕ, zero, suc, ◌+◌, List, [], ◌∷◌, refl, sym, ap, ◌∙◌, inl, inr}
 use Rattle.std.proofs.lemmas.Bool.{or_from}
-use Rattle.std.specs.Prelude.{ℤ, Bool, true, false, ◌⊎◌}
+use Rattle.std.specs.Prelude.{ℤ, Bool, false}
 use Rattle.shared_lemmas.proofs.Truths.{false_true}
 use Rattle.sections.specs.Place.{Place}
 use Rattle.types.specs.Code.{Codes, Program}
 use Rattle.types.specs.Contents.{Contents, FitsArrays}
-use Rattle.types.specs.Meaning.{begin_one, one}
+use Rattle.types.specs.Meaning.{begin_one}
 use Rattle.types.specs.Outcome.{Budget}
 use Rattle.types.specs.Run.{Fault, State, Block}
 use Rattle.effects.specs.Effects.{Pending, accesses}
@@ -23,7 +23,7 @@ use Rattle.race_checker.specs.Scope.{IsScoped}
 use Rattle.race_checker.proofs.Calming.{is_calm}
 use Rattle.race_checker.proofs.Scoping.{is_scoped}
 use Rattle.task_run.specs.Apart.{nothing, is_stopped, stops_anywhere, merged, apart, begin_apart}
-use Rattle.task_run.specs.Given.{in_truth, own, root_of}
+use Rattle.task_run.specs.Given.{in_truth, own}
 use Rattle.task_run.specs.Holds.{MayBegin}
 use Rattle.task_run.specs.InPlace.{in_place, result_in_place, whole, IsKeptWhole}
 use Rattle.task_run.specs.OwnRun.{Start, Step, Own, at_first, beginning, notes, own_rules, result_of}

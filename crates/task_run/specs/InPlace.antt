@@ -1,5 +1,5 @@
 -- Tasks that run whole: all tasks below them run in place, and leave one result without children.
-use Rattle.std.specs.Prelude.{ℕ, ◌≡◌, ◌⊎◌, List, [], Some, false}
+use Rattle.std.specs.Prelude.{ℕ, ◌≡◌, ◌⊎◌, [], Some, false}
 use Rattle.types.specs.Code.{Codes, Program}
 use Rattle.types.specs.Meaning.{one}
 use Rattle.types.specs.Run.{State, Block}

@@ -46,7 +46,8 @@ module _ (p : Program) (needs : Codes → Needs) (fresh : ℕ) (root : Start) wh
   -- the result of a task that has ended on its own, or that ran whole
   pub data IsWholeOrEnded (r : TaskResult) : Type 0 where
     has_ended : IsResult r → IsWholeOrEnded r
-    ran_whole : {s : Start} → Reached s (begun fresh s) → r ≡ whole p needs fresh s → IsWholeOrEnded r
+    ran_whole : {s : Start} → Reached s (begun fresh s) → r ≡ whole p needs fresh s
+        → IsWholeOrEnded r
 
   -- results of own runs settle what a task has made so far
   pub record CanSettle (st : State Own) : Type 0 where

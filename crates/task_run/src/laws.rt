@@ -21,7 +21,8 @@ ghost use Rattle.task_run.specs.OwnRun.{Start, Own, at_first, beginning, result_
 ghost use Rattle.task_run.specs.OwnRun.{last_action, Action, EndFinish, is_waiting, run_by};
 ghost use Rattle.task_run.specs.Given.{own, given, in_truth, comes_to, below, IsOwn, root_of};
 ghost use Rattle.task_run.specs.Given.{IsOfOwnRun, told_of};
-ghost use Rattle.task_run.specs.InPlace.{in_place, result_in_place, IsKeptWhole, whole, IsMadeFrom, IsMade};
+ghost use Rattle.task_run.specs.InPlace.{in_place, result_in_place, IsKeptWhole, whole};
+ghost use Rattle.task_run.specs.InPlace.{IsMadeFrom, IsMade};
 ghost use Rattle.task_run.specs.Frames.{Frame, Rest, Again, AtEnd, Standing, turn, handed, HasBegun};
 ghost use Rattle.task_run.specs.Frames.{HasBegunBelow, IsGivenChild, IsTask, Follows, done_in};
 ghost use Rattle.task_run.specs.Holds.{MayBegin, Holds, HasOwn, HasNeeds};
@@ -125,7 +126,7 @@ pub fn results_add_up()
 
 /// A task that may start has a settled result, if the results of all tasks below it are there, each
 /// once and in any order. Results of tasks settle the result of a given task only to this settled
-/// result. Results of own runs settle it only if they are exactly the results of all tasks below it.
+/// result. Results of own runs settle it only if they are exactly those of all tasks below it.
 pub fn results_settle()
     ensures complete { (p : Program) (needs : Codes → Needs) (fresh : ℕ) (root s : Start)
         → IsScoped p → IsCalm p → Provides p needs
