@@ -1,5 +1,5 @@
 -- What tasks give back at their ends is what is listed for them.
-use Rattle.std.proofs.Common.{◌≡◌, List, [], refl, sym, ap, ◌∙◌, subst}
+use Rattle.std.proofs.Common.{◌≡◌, List, [], refl, sym, ◌∙◌, subst}
 use Rattle.std.specs.Prelude.{ℤ, ◌||◌}
 use Rattle.sections.specs.Place.{Place}
 use Rattle.types.specs.Code.{Program}
