@@ -29,6 +29,7 @@ pub mod RunsGoOn
 pub mod SettledResults
 pub mod SideBySide
 pub mod Simulation
+pub mod SomeWhole
 pub mod Stacks
 pub mod StartsWorth
 pub mod StaysStopped

@@ -101,14 +101,10 @@ module _ (p : Program) (needs : Codes → Needs) (fresh : ℕ) where
       by_child rec (Some c) q = rec c q
 
   -- the whole of a task settles to what its start comes to
-  whole_settles : (s : Start) → complete (whole p needs fresh s) none_yet ≡ comes_to p needs fresh s
+  pub whole_settles : (s : Start) → complete (whole p needs fresh s) none_yet ≡ comes_to p needs fresh s
   whole_settles s =
       let all = comes_to p needs fresh s in
       ap (λ (b : Bool). record { stopped = b; contents = all.contents; lines = all.lines; faults = all.faults }) (or-false all.stopped)
-
-  -- it needs no other result
-  pub whole_alone : (s : Start) → settle (whole p needs fresh s) [] ≡ Some (comes_to p needs fresh s)
-  whole_alone s = ap (λ (x : Settled). Some x) (whole_settles s)
 
   module _ (root : Start) where
     -- a start is the one given to its path

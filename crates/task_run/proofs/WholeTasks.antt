@@ -1,5 +1,5 @@
 -- One thread that runs a task and all tasks below it in place makes the whole of the task.
-use Rattle.std.proofs.Common.{◌≡◌, ℕ, zero, suc, ◌+◌, List, [], ◌∷◌, refl, sym, ap, ◌∙◌, inl, inr}
+use Rattle.std.proofs.Common.{◌≡◌, ℕ, zero, suc, ◌+◌, List, [], Some, refl, sym, ap, ◌∙◌, inl, inr}
 use Rattle.std.proofs.lemmas.Bool.{or_from}
 use Rattle.std.specs.Prelude.{ℤ, Bool, false}
 use Rattle.shared_lemmas.proofs.Truths.{false_true}
@@ -23,20 +23,23 @@ use Rattle.race_checker.specs.Scope.{IsScoped}
 use Rattle.race_checker.proofs.Calming.{is_calm}
 use Rattle.race_checker.proofs.Scoping.{is_scoped}
 use Rattle.task_run.specs.Apart.{nothing, is_stopped, stops_anywhere, merged, apart, begin_apart}
-use Rattle.task_run.specs.Given.{in_truth, own}
+use Rattle.task_run.specs.Given.{in_truth, comes_to, own}
 use Rattle.task_run.specs.Holds.{MayBegin}
-use Rattle.task_run.specs.InPlace.{in_place, result_in_place, whole, IsKeptWhole}
+use Rattle.task_run.specs.InPlace.{in_place, result_in_place, IsKeptWhole, whole, made_of, made_below}
+use Rattle.task_run.specs.Lists.{Shuffled}
 use Rattle.task_run.specs.OwnRun.{Start, Step, Own, at_first, beginning, notes, own_rules, result_of}
 use Rattle.task_run.specs.Ready.{Around, Ready}
 use Rattle.task_run.specs.Reached.{has_ended, ran_whole}
 use Rattle.task_run.specs.Results.{TaskResult}
 use Rattle.task_run.specs.MayRun.{MayStart}
 use Rattle.task_run.specs.Runs.{root, IsMadeByTask}
+use Rattle.task_run.specs.Settling.{settle}
 use Rattle.task_run.proofs.AcceptedPrograms.{provides_needs, may_begin, ends_anywhere}
 use Rattle.task_run.proofs.OnePath.{own_path}
 use Rattle.task_run.proofs.ReachedTasks.{goes, may_start}
 use Rattle.task_run.proofs.SideBySide.{S, A, Same, Agree, same, both_stop}
 use Rattle.task_run.proofs.Simulation.{nowhere, unlocked_ready, begins, within_sim}
+use Rattle.task_run.proofs.SomeWhole.{some_whole_settle}
 use Rattle.task_run.proofs.StaysStopped.{begin_marks}
 
 -- a result that lists no child
@@ -152,12 +155,25 @@ module _ (p : Program) (needs : Codes → Needs) (fresh : ℕ) (s : Start) (plai
 -- ---- sound and accepted programs
 module _ (p : Program) (sound : IsSound p) (accepted : IsAccepted p) (input : List (List ℤ)) (b : Budget)
     (fits : FitsArrays p.arrays input) (s : Start) (may : MayStart p input b s) where
+  begins_so : MayBegin p (needs_of p) s
+  begins_so =
+      may_start p (needs_of p) (is_scoped p sound) (is_calm p sound accepted) (provides_needs p sound) b.steps (root p input b) refl
+      (may_begin p sound accepted input b fits) s may
+
   pub whole_in_place : is_stopped (in_place p b.steps s).flow ≡ false
       → result_in_place p b.steps s ≡ whole p (needs_of p) b.steps s
   whole_in_place =
-      is_whole p (needs_of p) (is_scoped p sound) (is_calm p sound accepted) (provides_needs p sound) b.steps s
-      (may_start p (needs_of p) (is_scoped p sound) (is_calm p sound accepted) (provides_needs p sound) b.steps (root p input b) refl
-      (may_begin p sound accepted input b fits) s may)
+      is_whole p (needs_of p) (is_scoped p sound) (is_calm p sound accepted) (provides_needs p sound) b.steps s begins_so
+
+  -- whichever tasks run whole, its result and those below it settle
+  pub settles_with_some : (runs_whole : Start → Bool) (rs : List TaskResult)
+      → Shuffled (made_below p (needs_of p) b.steps runs_whole s.nest s) rs
+      → settle (made_of p (needs_of p) b.steps runs_whole s) rs ≡ Some (comes_to p (needs_of p) b.steps s)
+  settles_with_some runs_whole rs order =
+      let task = (goes p (needs_of p) (is_scoped p sound) (is_calm p sound accepted) (provides_needs p sound) b.steps (root p input b) refl
+      (may_begin p sound accepted input b fits) may).task in
+      some_whole_settle p (needs_of p) (is_scoped p sound) (is_calm p sound accepted) (provides_needs p sound) b.steps (root p input b)
+      runs_whole s task.comes begins_so rs order
 
   -- what it makes in place is the result of a task
   pub made_in_place : IsKeptWhole p b.steps s → IsMadeByTask p input b (result_in_place p b.steps s)

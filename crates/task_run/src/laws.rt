@@ -1,7 +1,7 @@
 //! Theorems about the definitions, each the contract of an empty function.
 
 ghost use Rattle.std.specs.Prelude.{◌≡◌, ◌+◌, ◌<◌, ◌||◌, ℕ, ℤ, List, [], ◌∷◌, ◌++◌, Option, Some, true};
-ghost use Rattle.std.specs.Prelude.{false, length};
+ghost use Rattle.std.specs.Prelude.{Bool, false, length};
 ghost use Rattle.types.specs.Code.{Truth, Code, While, Async, Codes, Then, Program};
 ghost use Rattle.types.specs.Contents.{FitsArrays};
 ghost use Rattle.types.specs.Outcome.{Budget, outcome};
@@ -22,7 +22,7 @@ ghost use Rattle.task_run.specs.OwnRun.{last_action, Action, EndFinish, is_waiti
 ghost use Rattle.task_run.specs.Given.{own, given, in_truth, comes_to, below, IsOwn, root_of};
 ghost use Rattle.task_run.specs.Given.{IsOfOwnRun, told_of};
 ghost use Rattle.task_run.specs.InPlace.{in_place, result_in_place, IsKeptWhole, whole};
-ghost use Rattle.task_run.specs.InPlace.{IsMadeFrom, IsMade};
+ghost use Rattle.task_run.specs.InPlace.{IsMadeFrom, IsMade, made_of, made_below};
 ghost use Rattle.task_run.specs.Frames.{Frame, Rest, Again, AtEnd, Standing, turn, handed, HasBegun};
 ghost use Rattle.task_run.specs.Frames.{HasBegunBelow, IsGivenChild, IsTask, Follows, done_in};
 ghost use Rattle.task_run.specs.Holds.{MayBegin, Holds, HasOwn, HasNeeds};
@@ -324,8 +324,9 @@ pub fn runs_stay_tasks()
 
 /// One thread that runs a task and all tasks below it in place makes all that the task's start
 /// comes to, unless it is stopped. If the body is plain, it makes the result of the task's own run,
-/// stopped or not. In both cases what it makes is the result of a task. It lists no child, and
-/// settles alone.
+/// stopped or not. In both cases what it makes is the result of a task. Whichever tasks run whole,
+/// the result of a task settles if those of all tasks below it are there, each once and in any
+/// order. A task that runs whole has none below it.
 pub fn tasks_may_run_whole()
     ensures whole { (p : Program) → IsSound p → IsAccepted p
         → (input : List (List ℤ)) (b : Budget) → FitsArrays p.arrays input
@@ -339,8 +340,13 @@ pub fn tasks_may_run_whole()
         → (input : List (List ℤ)) (b : Budget) → FitsArrays p.arrays input
         → (s : Start) → MayStart p input b s → IsKeptWhole p b.steps s
         → IsMadeByTask p input b (result_in_place p b.steps s) }
-    ensures settles { (p : Program) (needs : Codes → Needs) (fresh : ℕ) (s : Start)
-        → settle (whole p needs fresh s) [] ≡ Some (comes_to p needs fresh s) }
+    ensures settles { (p : Program) → IsSound p → IsAccepted p
+        → (input : List (List ℤ)) (b : Budget) → FitsArrays p.arrays input
+        → (s : Start) → MayStart p input b s
+        → (runs_whole : Start → Bool) (rs : List TaskResult)
+        → Shuffled (made_below p (needs_of p) b.steps runs_whole s.nest s) rs
+        → settle (made_of p (needs_of p) b.steps runs_whole s) rs
+        ≡ Some (comes_to p (needs_of p) b.steps s) }
 {}
 
 /// Runs end: a turn decreases the bound of the number of turns that are left, including those of a
