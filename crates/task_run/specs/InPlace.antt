@@ -1,5 +1,5 @@
 -- Tasks that run whole: all tasks below them run in place, and leave one result without children.
-use Rattle.std.specs.Prelude.{ℕ, ◌≡◌, ◌⊎◌, List, [], Some, false}
+use Rattle.std.specs.Prelude.{ℕ, zero, suc, ◌≡◌, ◌⊎◌, List, [], ◌∷◌, flat_map, Some, Bool, false, if◌then◌else◌}
 use Rattle.types.specs.Code.{Codes, Program}
 use Rattle.types.specs.Meaning.{one}
 use Rattle.types.specs.Run.{State, Block}
@@ -56,3 +56,16 @@ module _ (p : Program) (needs : Codes → Needs) (fresh : ℕ) where
   -- if its path is given a start, a result is made from this start
   abbrev pub IsMade : Start → TaskResult → Type 0
   IsMade root r = (s : Start) → given p needs fresh root r.path ≡ Some s → IsMadeFrom s r
+
+  -- any choice of the tasks that run whole
+  module _ (runs_whole : Start → Bool) where
+    -- the result of a task
+    abbrev pub made_of : Start → TaskResult
+    made_of s = if runs_whole s then whole s else result_of (own p needs fresh s)
+
+    -- the results of all tasks below it: none if it runs whole
+    abbrev pub made_below : (nest : ℕ) → Start → List TaskResult
+    made_below zero s = []
+    made_below (suc n) s =
+        if runs_whole s then []
+        else flat_map (λ c. made_of c.start ∷ made_below n c.start) (own p needs fresh s).extra.pending

@@ -4,6 +4,7 @@ pub mod Frames
 pub mod Leading
 pub mod Given
 pub mod Holds
+pub mod InPlace
 pub mod Jobs
 pub mod Left
 pub mod Lists
@@ -23,5 +24,4 @@ pub mod Stops
 pub mod TaskKind
 pub mod Translation
 pub mod Worth
-pub mod InPlace
 pub mod WholeRuns

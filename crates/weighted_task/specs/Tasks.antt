@@ -5,7 +5,7 @@ use Rattle.types.specs.Translation.{codes, program}
 use Rattle.effects.specs.Statements.{HasStatement}
 use Rattle.task_run.specs.MayRun.{MayRun, MayStart}
 use Rattle.task_run.specs.Reached.{begun}
-use Rattle.task_run.specs.Runs.{root, IsTaskResult}
+use Rattle.task_run.specs.Runs.{root, IsMadeByTask}
 use Rattle.task_run.specs.Standings.{IsAt}
 use Rattle.task_run.specs.Translation.{start, task_result}
 use Rattle.task_run.specs.declared.result.TaskResult.{TaskResult as Made}
@@ -52,9 +52,9 @@ pub record IsChild (c : Child) : Type 0 where
   pub may : MayStart (program_of c.job) (lists_of c.job) (budget_of c.job) (start c.start.value)
   pub label : IsOfAsync (program_of c.job) c.start.value
 
--- a result is that of a task of the job
+-- a task of the job has made this result
 abbrev pub IsResultOf : Job → Made → Type 0
-IsResultOf j made = IsTaskResult (program_of j) (lists_of j) (budget_of j) (task_result made)
+IsResultOf j made = IsMadeByTask (program_of j) (lists_of j) (budget_of j) (task_result made)
 
 -- a task before its first turn, in this scope
 pub record IsFirst (j : Job) (r : Run) (at : ScopeMark) (b : Body) : Type 0 where
