@@ -1,6 +1,6 @@
 //! The workers of a run.
 
-ghost use Rattle.std.specs.Prelude.{ℕ, ◌≡◌, ◌+◌, ◌≤◌, ◌++◌, [], ◌∷◌, length, IfErr, IfOk, IfSome};
+ghost use Rattle.std.specs.Prelude.{◌≡◌, ◌+◌, ◌≤◌, ◌++◌, [], ◌∷◌, length, IfErr, IfOk, IfSome};
 ghost use Rattle.std.specs.Prelude.{OnOk, Option, Some};
 ghost use Rattle.types.specs.Translation.{outcome as outcome_in};
 ghost use Rattle.task_run.specs.Jobs.{IsJob, outcome_of};
@@ -8,9 +8,9 @@ ghost use Rattle.finish_scope.specs.Own.{IsOwnPassing};
 ghost use Rattle.tickets.specs.Seats.{drawn_of, id_of};
 ghost use Rattle.worker_threads.specs.DequeEnds.{put_into};
 ghost use Rattle.workers.specs.Own.{HasCode, IsOwnBody, IsOwnChild, IsOwnEnded, IsOwnEnding, IsOwnNext};
-ghost use Rattle.workers.specs.Own.{IsOwnLeaving, IsOwnStep, IsOwnTask, IsOwnTurn};
+ghost use Rattle.workers.specs.Own.{IsOwnLeaving, IsOwnStep, IsOwnTask, IsOwnTurn, IsOwnWhole};
 ghost use Rattle.workers.specs.Causes.{Happens, IsOfResults};
-ghost use Rattle.workers.specs.WorkerStates.{DrawsForEach, Fails, HasSeat, Tells};
+ghost use Rattle.workers.specs.WorkerStates.{DrawsForAll, DrawsForEach, Fails, HasSeat, Tells};
 ghost use Rattle.workers.specs.Words.{IsOwnStub};
 
 use crate::code::OwnCode;
@@ -39,6 +39,7 @@ use std::thread;
 use task_run::job::Job;
 use task_run::result::TaskResult;
 use tickets::{Stub, Tickets};
+use types::laws::typed_programs_are_sound;
 use types::outcome::Outcome;
 use weighted_task::finish::{Ending, Entering, Parked};
 use weighted_task::rooms::TaskRooms;
@@ -488,6 +489,7 @@ impl<'p, J: Running + Recording, G: Gate> Shared<'p, J, G> {
     fn on_one_thread(&self) -> Result<Option<(Outcome, u64)>, AllocError>
         ensures { IfOk result (λ r. IfSome r (λ t. outcome_in t.0 ≡ outcome_of self.now.job)) }
     {
+        typed_programs_are_sound(self.job.accepted.typed());
         let limit = Most(self.settings.tasks);
         let codes = &self.code.lend().codes;
         match serial_within(self.job.plan(), codes, self.job.input, &limit)? {
@@ -538,7 +540,7 @@ impl<'p, J: Running + Recording, G: Gate> Shared<'p, J, G> {
         ensures failed { IfErr result
             (Fails J.job self.now.tickets self.now.settings.tasks state.new.seat) }
         ensures outcome { IfOk result (λ o. IfSome o (λ x. outcome_in x ≡ outcome_of self.now.job)) }
-        ensures drawn { OnOk result ((begun : ℕ) × DrawsForEach begun state.old.seat state.new.seat
+        ensures drawn { OnOk result (DrawsForAll state.old.seat state.new.seat
             (put_into tasks.old.own) (put_into tasks.new.own)) }
     {
         let from = ready.from();
@@ -567,7 +569,7 @@ impl<'p, J: Running + Recording, G: Gate> Shared<'p, J, G> {
         ensures failed { IfErr result
             (Fails J.job self.now.tickets self.now.settings.tasks state.new.seat) }
         ensures outcome { IfOk result (λ o. IfSome o (λ x. outcome_in x ≡ outcome_of self.now.job)) }
-        ensures drawn { OnOk result (DrawsForEach 0 state.old.seat state.new.seat
+        ensures drawn { OnOk result (DrawsForAll state.old.seat state.new.seat
             (put_into tasks.old.own) (put_into tasks.new.own)) }
     {
         let mut log_guard = self.hold(rt);
@@ -606,14 +608,15 @@ impl<'p, J: Running + Recording, G: Gate> Shared<'p, J, G> {
         ensures failed { IfErr result
             (Fails J.job self.now.tickets self.now.settings.tasks state.new.seat) }
         ensures outcome { IfOk result (λ o. IfSome o (λ x. outcome_in x ≡ outcome_of self.now.job)) }
-        ensures drawn { OnOk result ((begun : ℕ) × DrawsForEach begun state.old.seat state.new.seat
+        ensures drawn { OnOk result (DrawsForAll state.old.seat state.new.seat
             (put_into tasks.old.own) (put_into tasks.new.own)) }
     {
         let limit = WhileRunning {
             pool: &self.pool,
             most: self.settings.tasks,
         };
-        match child.run_whole(self.code.lend(), &limit, &mut state.rooms)? {
+        let code = self.code.lend();
+        match whole::<J, WhileRunning<'_, 'p, J>>(child, code, &limit, &mut state.rooms)? {
             WholeChild::Made(ended, begun) => {
                 self.draw_all(state, begun)?;
                 match self.end(rt, state.number, open_scopes, ended)? {
@@ -741,6 +744,20 @@ fn go<'p, J: Running>(
     ensures { IfOk result (IsOwnTurn J.job) }
 {
     task.go(code, rooms)
+}
+
+/// Runs a spawned task whole.
+fn whole<'p, J: Running, L: Limit>(
+    child: Child<'p>,
+    code: &ProgramCode<'p>,
+    limit: &L,
+    rooms: &mut TaskRooms<'p>,
+) -> Result<WholeChild<'p>, AllocError>
+    requires own { IsOwnChild J.job child }
+    requires code { HasCode J.job code.now }
+    ensures { IfOk result (IsOwnWhole J.job) }
+{
+    child.run_whole(code, limit, rooms)
 }
 
 /// Takes one turn of a task.
