@@ -15,16 +15,17 @@ use Rattle.task_run.specs.Frames.{AtEnd, handed}
 use Rattle.task_run.specs.Given.{IsOfOwnRun}
 use Rattle.task_run.specs.Lists.{Each}
 use Rattle.task_run.specs.OwnRun.{Own, EndFinish, result_of}
-use Rattle.task_run.specs.Reached.{leaves}
+use Rattle.task_run.specs.Reached.{has_ended, leaves}
 use Rattle.task_run.specs.Results.{TaskResult, Settled, and_then}
-use Rattle.task_run.specs.Runs.{root}
+use Rattle.task_run.specs.Runs.{root, IsMadeByTask, IsTaskResult}
 use Rattle.task_run.specs.RunTurns.{ComesBack}
 use Rattle.task_run.specs.Settling.{settle}
 use Rattle.task_run.specs.Translation.{settled as settled_of, task_result}
 use Rattle.task_run.specs.declared.result.TaskResult.{TaskResult as Made}
 use Rattle.task_run.specs.declared.run.Run.{Run}
 use Rattle.task_run.specs.declared.turn.Paused.{Paused}
-use Rattle.task_run.proofs.TaskRuns.{each_if_given, leaves_follow}
+use Rattle.task_run.proofs.Lists.{each_more}
+use Rattle.task_run.proofs.TaskRuns.{made_if_given, leaves_follow}
 use Rattle.gather.specs.GivesBack.{GiveBack, all_owned}
 use Rattle.task_run.specs.Jobs.{IsJob, program_of, lists_of, budget_of}
 use Rattle.task_run.specs.declared.job.Job.{Job}
@@ -75,7 +76,7 @@ module _ (j : Job) (ok : IsJob j) (c : Course) (q : Paused) (made : Made) (at : 
       let was = at.come.after in
       record {
         stands = leaves rs at.come.stands
-            (each_if_given (program_of j) (needs_of (program_of j)) (budget_of j).steps (root (program_of j) (lists_of j) (budget_of j)) rs own) settles;
+            (made_if_given (program_of j) (needs_of (program_of j)) (budget_of j).steps (root (program_of j) (lists_of j) (budget_of j)) rs own) settles;
         follows = leaves_follow (program_of j) (needs_of (program_of j)) (budget_of j).steps (root (program_of j) (lists_of j) (budget_of j))
             c.start c.receipts rs at.before at.frames at.state come_to task.awake settles at.come.follows;
         after = omega (arith, long, was);
@@ -293,7 +294,9 @@ module _ (old : rWorld) (ok : IsWeightedJob old.job) (path : Path) (m : MayLeave
       subst (λ rs. GiveBack (task_result made) rs) (sym x.are)
       (subst (λ y. GiveBack y x.book.results) (sym paused.1.made)
       (give_back (program_of old.job.job) ok.job.sound ok.job.accepted (lists_of old.job.job) (budget_of old.job.job) ok.job.fits x.before.start
-      (record { frames = AtEnd paused.1.before ∷ paused.1.frames; state = paused.1.state }) paused.1.come.stands x.book.results came))
+      (record { frames = AtEnd paused.1.before ∷ paused.1.frames; state = paused.1.state }) paused.1.come.stands x.book.results
+      (each_more (IsTaskResult (program_of old.job.job) (lists_of old.job.job) (budget_of old.job.job))
+      (IsMadeByTask (program_of old.job.job) (lists_of old.job.job) (budget_of old.job.job)) x.book.results (λ r k. has_ended k) came)))
 
   module _ (r2 : rWorld) (others2 : r2 ≡ record old { scopes = r2.scopes; hands = hs.hands })
       (taken : ScopeBecomes roomy r2 m.at.inner.scope (λ to. to ≡ record m.at.book { results = None })) where

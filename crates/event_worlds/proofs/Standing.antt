@@ -23,6 +23,7 @@ use Rattle.task_run.specs.Holds.{MayBegin}
 use Rattle.task_run.specs.Reached.{Reached, turns, leaves}
 use Rattle.task_run.proofs.NextAction.{next_is_done, next_is_end, next_is_last}
 use Rattle.task_run.proofs.ReachedTasks.{goes}
+use Rattle.task_run.proofs.SettledResults.{each_made}
 use Rattle.task_run.proofs.TaskRuns.{turns_follow, leaves_follow}
 use Rattle.task_run.proofs.NeverStuck.{by_turns}
 use Rattle.task_run.proofs.TurnActions.{turn_does}
@@ -222,7 +223,7 @@ module _ (p : Program) (needs : Codes → Needs) (scoped : IsScoped p) (calm : I
       → (rs : List TaskResult) → Each (IsOwn p needs fresh root) rs → (x : Settled) → settle (result_of st) rs ≡ Some x
       → Stands s (receipts ++ rs ∷ []) (done + 1) (record { frames = fs; state = handed before x st })
   left s receipts done before fs st h rs all x e = record {
-    reached = leaves rs h.reached all e;
+    reached = leaves rs h.reached (each_made p needs fresh root rs all) e;
     follows = leaves_follow p needs fresh root s receipts rs before fs st x
         (goes p needs scoped calm provided fresh root named may_begin h.reached).task.awake e h.follows;
     after = length_push st.extra.actions EndFinish ∙ ap (λ n. n + 1) h.after;

@@ -28,7 +28,7 @@ use Rattle.task_run.specs.Frames.{IsBegun, HasBegun, IsGivenChild}
 use Rattle.task_run.proofs.Begun.{begun_by-append, Tells, tells, begin_tells, enter_tells}
 use Rattle.task_run.proofs.Begun.{at_first_fine, idle_tells}
 use Rattle.task_run.proofs.Lists.{each_more}
-use Rattle.task_run.proofs.SettledResults.{gives, IsGiven, begun_is_true, part_sound}
+use Rattle.task_run.proofs.SettledResults.{gives, IsGiven, begun_is_true, each_made, part_sound}
 use Rattle.shared_lemmas.proofs.Lists.{get-append_left}
 
 pub record Prefix {A : Type 0} (xs zs : List A) : Type 0 where
@@ -159,7 +159,7 @@ module _ (p : Program) (needs : Codes → Needs) (fresh : ℕ) (root s : Start) 
       let k = gives (slice_get receipts b.extra.ended) (settle (result_of b)) x e in
       let rs = each_get (Each (IsOwn p needs fresh root)) receipts b.extra.ended k.one all k.first in
       let true_ones = each_more (IsBegun s.nest b) (IsGivenChild p needs fresh root) b.extra.pending (λ c i. begun_is_true p needs fresh root s is b c g.path more i) g.fine.begun in
-      ap Some (sym (part_sound p needs fresh root b.extra.pending true_ones (result_of b) refl k.one rs x k.next))
+      ap Some (sym (part_sound p needs fresh root b.extra.pending true_ones (result_of b) refl k.one (each_made p needs fresh root k.one rs) x k.next))
     where
       more : (n : ℕ) (t : Start) → slice_get (begun_by b.extra.actions) n ≡ Some t → slice_get (begun_by Z) n ≡ Some t
       more n t f =

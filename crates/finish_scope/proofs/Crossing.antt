@@ -160,7 +160,7 @@ start_send κ =
       search (sendable, crosses, stmt_sync) depth 60 fits 50000,
       (
         OfEnvironment.the_send,
-        (OfHoldings.the_send, (search sendable, (OfPath.the_send, tt))),
+        (OfHoldings.the_send, (search sendable, (OfPath.the_send, (search sendable, tt)))),
       ),
     )
 

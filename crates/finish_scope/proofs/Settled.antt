@@ -5,7 +5,7 @@ use Rattle.task_run.specs.Frames.{AtEnd}
 use Rattle.task_run.specs.Jobs.{program_of, lists_of, budget_of, IsJob}
 use Rattle.task_run.specs.Lists.{Each}
 use Rattle.task_run.specs.Results.{TaskResult as Results}
-use Rattle.task_run.specs.Runs.{root, IsTaskResult}
+use Rattle.task_run.specs.Runs.{root, IsMadeByTask}
 use Rattle.task_run.specs.Settling.{settle}
 use Rattle.task_run.specs.Translation.{owned_by, settled, task_result}
 use Rattle.task_run.specs.declared.job.Job.{Job}
@@ -31,8 +31,8 @@ module _ (j : Job) (rs : List Made) (all : Each (IsResultOf j) rs) where
   abbrev results : List Results
   results = map task_result rs
 
-  are_results : Each (IsTaskResult (program_of j) (lists_of j) (budget_of j)) results
-  are_results = each_map task_result (IsTaskResult (program_of j) (lists_of j) (budget_of j)) rs all
+  are_results : Each (IsMadeByTask (program_of j) (lists_of j) (budget_of j)) results
+  are_results = each_map task_result (IsMadeByTask (program_of j) (lists_of j) (budget_of j)) rs all
 
   -- the results give back what the owner lists
   gives_so : (ok : IsJob j) (w : Owner) (made : Made) (outer : List Stake) (n : _) → EndsSo j w made outer n
@@ -64,7 +64,7 @@ comes p rs ends all w y job owner outer opened settles owned = record {
       (subst (λ (o : _). IsAtEnd p.job p.owner p.made o.items w.opened) (sym outer)
       (subst (λ (n : _). IsAtEnd p.job p.owner p.made p.outer.items n) (sym opened) ends)));
   results = map task_result rs;
-  tasks = subst (λ (j : Job). Each (IsTaskResult (program_of j) (lists_of j) (budget_of j)) (map task_result rs)) (sym job) (are_results p.job rs all);
+  tasks = subst (λ (j : Job). Each (IsMadeByTask (program_of j) (lists_of j) (budget_of j)) (map task_result rs)) (sym job) (are_results p.job rs all);
   settles = settles;
   owned = owned (gives p.job rs all p.owner p.made p.outer.items p.opened ends);
 }

@@ -1,7 +1,6 @@
 -- What tasks give back at their ends is what is listed for them.
-use Rattle.std.proofs.Common.{◌≡◌, List, [], refl, sym, ap, ◌∙◌, subst}
-use Rattle.std.specs.Prelude.{ℤ, ◌||◌, nat_eq}
-use Rattle.std.specs.Cmp.Lexicographic.{pointwise}
+use Rattle.std.proofs.Common.{◌≡◌, List, [], refl, sym, ◌∙◌, subst}
+use Rattle.std.specs.Prelude.{ℤ, ◌||◌}
 use Rattle.sections.specs.Place.{Place}
 use Rattle.types.specs.Code.{Program}
 use Rattle.types.specs.Contents.{FitsArrays}
@@ -13,7 +12,8 @@ use Rattle.task_run.specs.Frames.{Standing}
 use Rattle.task_run.specs.Lists.{Each}
 use Rattle.task_run.specs.OwnRun.{Start, Child, Own, back_from, result_of}
 use Rattle.task_run.specs.Results.{TaskResult}
-use Rattle.task_run.specs.Runs.{IsTaskResult, MayStand}
+use Rattle.task_run.specs.Reached.{has_ended, ran_whole}
+use Rattle.task_run.specs.Runs.{IsMadeByTask, MayStand}
 use Rattle.task_run.specs.RunTurns.{ComesBack}
 use Rattle.task_run.specs.Translation.{owned_by}
 use Rattle.task_run.specs.declared.result.Settled.{Settled}
@@ -30,21 +30,25 @@ comes_back st s h = λ t q. (h q ∙ all_back st q) t
 
 module _ (p : Program) (sound : IsSound p) (accepted : IsAccepted p) (input : List (List ℤ)) (b : Budget)
     (fits : FitsArrays p.arrays input) where
-  listed_given : (s : Start) (t : Standing Own) → MayStand p input b s t → (rs : List TaskResult) → Each (IsTaskResult p input b) rs
+  listed_given : (s : Start) (t : Standing Own) → MayStand p input b s t → (rs : List TaskResult) → Each (IsMadeByTask p input b) rs
       → AreGivenBack rs (result_of t.state).children
   listed_given s t stands rs all =
       each_map (λ (c : Child). c.listed) (λ l. Each (GivesBack l) rs) t.state.extra.pending
       (each_more (IsGivenBack p input b) (λ (c : Child). Each (GivesBack c.listed) rs) t.state.extra.pending
-      (λ c back. each_more (IsTaskResult p input b) (GivesBack c.listed) rs
-      (λ r k e q. ap (λ (x : TaskResult). all_owned x q) k.is ∙ all_back k.state q
-      ∙ back r k (ap (λ (x : TaskResult). pointwise nat_eq x.path c.listed.path) (sym k.is) ∙ e) q) all)
+      (λ c back. each_more (IsMadeByTask p input b) (GivesBack c.listed) rs back all)
       (children_give_back p sound accepted input b fits s t stands))
 
-  pub give_back : (s : Start) (t : Standing Own) → MayStand p input b s t → (rs : List TaskResult) → Each (IsTaskResult p input b) rs
+  -- the children that a result lists; a task that ran whole lists none
+  result_given : (rs : List TaskResult) → Each (IsMadeByTask p input b) rs → (x : TaskResult) → IsMadeByTask p input b x
+      → AreGivenBack rs x.children
+  result_given rs all x (has_ended k) =
+      subst (λ (y : TaskResult). AreGivenBack rs y.children) (sym k.is)
+      (listed_given k.start (record { frames = []; state = k.state }) k.ended rs all)
+  result_given rs all x (ran_whole starts is) = subst (λ (y : TaskResult). AreGivenBack rs y.children) (sym is) tt
+
+  pub give_back : (s : Start) (t : Standing Own) → MayStand p input b s t → (rs : List TaskResult) → Each (IsMadeByTask p input b) rs
       → GiveBack (result_of t.state) rs
   give_back s t stands rs all = (
     listed_given s t stands rs all,
-    each_more (IsTaskResult p input b) (λ x. AreGivenBack rs x.children) rs
-        (λ x k. subst (λ (y : TaskResult). AreGivenBack rs y.children) (sym k.is)
-        (listed_given k.start (record { frames = []; state = k.state }) k.ended rs all)) all,
+    each_more (IsMadeByTask p input b) (λ x. AreGivenBack rs x.children) rs (result_given rs all) all,
   )

@@ -12,20 +12,20 @@ ghost use Rattle.task_run.specs.Frames.{Standing};
 ghost use Rattle.task_run.specs.Lists.{Each};
 ghost use Rattle.task_run.specs.OwnRun.{Start, Own, result_of};
 ghost use Rattle.task_run.specs.Results.{TaskResult};
-ghost use Rattle.task_run.specs.Runs.{IsTaskResult, MayStand};
+ghost use Rattle.task_run.specs.Runs.{IsMadeByTask, MayStand};
 ghost use Rattle.task_run.specs.RunTurns.{ComesBack};
 ghost use Rattle.task_run.specs.Translation.{owned_by};
 ghost use Rattle.task_run.specs.declared.result.Settled.{Settled};
 ghost use Rattle.gather.specs.GivesBack.{GiveBack, all_owned};
 
 /// In each configuration that a task of a sound and accepted program can reach, the results of
-/// tasks that have ended give back what is listed for these tasks. So its result may be settled
-/// with them.
+/// tasks that have ended or that ran whole give back what is listed for these tasks. So its result
+/// may be settled with them.
 pub fn results_of_tasks_give_back()
     ensures { (p : Program) → IsSound p → IsAccepted p
         → (input : List (List ℤ)) (b : Budget) → FitsArrays p.arrays input
         → (s : Start) (t : Standing Own) → MayStand p input b s t
-        → (rs : List TaskResult) → Each (IsTaskResult p input b) rs
+        → (rs : List TaskResult) → Each (IsMadeByTask p input b) rs
         → GiveBack (result_of t.state) rs }
 {}
 

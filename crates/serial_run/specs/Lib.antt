@@ -14,3 +14,4 @@ pub mod Machines
 pub mod Kind
 pub mod Stores
 pub mod StoreLaws
+pub mod Limits

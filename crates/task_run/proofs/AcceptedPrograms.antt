@@ -16,10 +16,11 @@ use Rattle.race_checker.proofs.Calming.{is_calm}
 use Rattle.task_run.specs.Apart.{apart_outcome}
 use Rattle.task_run.specs.Results.{TaskResult, Settled}
 use Rattle.task_run.specs.OwnRun.{Start, Own, result_of}
-use Rattle.task_run.specs.Given.{own, comes_to, below, IsOfOwnRun, IsOwn, root_of, told_of}
+use Rattle.task_run.specs.Given.{own, comes_to, below, IsOfOwnRun, root_of, told_of}
+use Rattle.task_run.specs.InPlace.{IsMade}
 use Rattle.task_run.specs.Frames.{Standing}
 use Rattle.task_run.specs.Holds.{MayBegin}
-use Rattle.task_run.specs.Reached.{Reached, IsResult, HasNext, CanSettle, CanEnd}
+use Rattle.task_run.specs.Reached.{Reached, IsResult, IsWholeOrEnded, HasNext, CanSettle, CanEnd}
 use Rattle.task_run.specs.Settling.{settle, IsParted}
 use Rattle.task_run.specs.Lists.{Each, Shuffled}
 use Rattle.task_run.proofs.Lists.{each_more}
@@ -28,13 +29,13 @@ use Rattle.task_run.proofs.SettledResults.{told_apart, settled_outcome}
 use Rattle.task_run.proofs.HoldingTurns.{root_begins}
 use Rattle.task_run.proofs.TasksEnd.{all_settle}
 use Rattle.task_run.proofs.NeverStuck.{can_leave, can_end}
-use Rattle.task_run.proofs.ReachedTasks.{has_next, is_parted, ends_of_own_run, ends_own, root_ends}
+use Rattle.task_run.proofs.ReachedTasks.{has_next, is_parted, ends_of_own_run, results_made, root_ends}
 
 pub provides_needs : (p : Program) → IsSound p → Provides p (needs_of p)
 provides_needs p sound = provides p (summaries p) (summaries_derived p) (summaries_stable p sound)
 
 module _ (p : Program) (sound : IsSound p) (accepted : IsAccepted p) (input : List (List ℤ)) (b : Budget) where
-  pub settled : (rs : List TaskResult) (s : Settled) → Each (IsOwn p (needs_of p) b.steps (root_of p input b.nest)) rs
+  pub settled : (rs : List TaskResult) (s : Settled) → Each (IsMade p (needs_of p) b.steps (root_of p input b.nest)) rs
       → settle (result_of (own p (needs_of p) b.steps (root_of p input b.nest))) rs ≡ Some s → told_of p s ≡ outcome p input b
   settled rs s all is =
       settled_outcome p (needs_of p) (is_scoped p sound) (is_calm p sound accepted) (provides_needs p sound) input b rs s all is
@@ -43,7 +44,7 @@ module _ (p : Program) (sound : IsSound p) (accepted : IsAccepted p) (input : Li
   apart = settles p (needs_of p) (is_scoped p sound) (is_calm p sound accepted) (provides_needs p sound) input b
 
   module _ (fits : FitsArrays p.arrays input) where
-    may_begin : MayBegin p (needs_of p) (root_of p input b.nest)
+    pub may_begin : MayBegin p (needs_of p) (root_of p input b.nest)
     may_begin = root_begins p (needs_of p) (is_scoped p sound) (is_calm p sound accepted) (provides_needs p sound) input b.nest fits
 
     pub next_has : (s : Start) (t : Standing Own) → Reached p (needs_of p) b.steps (root_of p input b.nest) s t
@@ -62,20 +63,20 @@ module _ (p : Program) (sound : IsSound p) (accepted : IsAccepted p) (input : Li
         ends_of_own_run p (needs_of p) (is_scoped p sound) (is_calm p sound accepted) (provides_needs p sound) b.steps
         (root_of p input b.nest) refl may_begin
 
-    pub results_own : (r : TaskResult) → IsResult p (needs_of p) b.steps (root_of p input b.nest) r
-        → IsOwn p (needs_of p) b.steps (root_of p input b.nest) r
-    results_own =
-        ends_own p (needs_of p) (is_scoped p sound) (is_calm p sound accepted) (provides_needs p sound) b.steps
+    pub made : (r : TaskResult) → IsWholeOrEnded p (needs_of p) b.steps (root_of p input b.nest) r
+        → IsMade p (needs_of p) b.steps (root_of p input b.nest) r
+    made =
+        results_made p (needs_of p) (is_scoped p sound) (is_calm p sound accepted) (provides_needs p sound) b.steps
         (root_of p input b.nest) refl may_begin
 
     pub told : (st : State Own) → Reached p (needs_of p) b.steps (root_of p input b.nest) (root_of p input b.nest)
         (record { frames = []; state = st })
-        → (rs : List TaskResult) (s : Settled) → Each (IsResult p (needs_of p) b.steps (root_of p input b.nest)) rs
+        → (rs : List TaskResult) (s : Settled) → Each (IsWholeOrEnded p (needs_of p) b.steps (root_of p input b.nest)) rs
         → settle (result_of st) rs ≡ Some s → told_of p s ≡ outcome p input b
     told st r rs s all is =
         settled rs s
-        (each_more (IsResult p (needs_of p) b.steps (root_of p input b.nest))
-        (IsOwn p (needs_of p) b.steps (root_of p input b.nest)) rs results_own all)
+        (each_more (IsWholeOrEnded p (needs_of p) b.steps (root_of p input b.nest))
+        (IsMade p (needs_of p) b.steps (root_of p input b.nest)) rs made all)
         (ap (λ r. settle r rs)
         (sym (root_ends p (needs_of p) (is_scoped p sound) (is_calm p sound accepted) (provides_needs p sound) b.steps
         (root_of p input b.nest) refl may_begin st r)) ∙ is)

@@ -2,6 +2,7 @@
 -- back to it.
 use Rattle.std.proofs.lemmas.Option.{same_Some}
 use Rattle.std.proofs.Common.{◌≡◌, ℕ, List, [], ◌∷◌, refl, sym, ap, ◌∙◌}
+use Rattle.std.proofs.Math.Bool.{or-false}
 use Rattle.std.specs.Prelude.{ℤ, ◌||◌, true, nat_eq}
 use Rattle.std.specs.Cmp.Lexicographic.{pointwise}
 use Rattle.sections.specs.Covers.{has}
@@ -10,7 +11,6 @@ use Rattle.types.specs.Code.{Code, Do, If, While, Split, Parts, Begun, Call, Asy
 use Rattle.types.specs.Code.{Program}
 use Rattle.types.specs.Contents.{FitsArrays}
 use Rattle.types.specs.Outcome.{Budget}
-use Rattle.types.specs.Run.{State}
 use Rattle.effects.specs.Needs.{Needs, Provides}
 use Rattle.effects.specs.Rounds.{needs_of}
 use Rattle.effects.specs.Sound.{IsSound}
@@ -22,14 +22,14 @@ use Rattle.race_checker.specs.Clash.{IsAccepted}
 use Rattle.race_checker.specs.Scope.{IsScoped}
 use Rattle.race_checker.proofs.Calming.{is_calm}
 use Rattle.race_checker.proofs.Scoping.{is_scoped}
-use Rattle.task_run.specs.OwnRun.{Start, Child, Own, back_from}
+use Rattle.task_run.specs.OwnRun.{Start, Child, Own}
 use Rattle.task_run.specs.Given.{given, in_truth, root_of}
 use Rattle.task_run.specs.Frames.{Frame, Rest, Again, Further, AtEnd, OnFault, Back, Standing, IsGivenChild}
 use Rattle.task_run.specs.Holds.{MayBegin}
 use Rattle.task_run.specs.Lists.{Each}
-use Rattle.task_run.specs.Reached.{Reached, root_begins, child_begins, turns, leaves}
-use Rattle.task_run.specs.Results.{TaskResult}
-use Rattle.task_run.specs.Runs.{MayStand, IsTaskResult}
+use Rattle.task_run.specs.Reached.{Reached, root_begins, child_begins, turns, leaves, IsWholeOrEnded, has_ended, ran_whole}
+use Rattle.task_run.specs.Results.{TaskResult, returned}
+use Rattle.task_run.specs.Runs.{MayStand, IsMadeByTask}
 use Rattle.task_run.specs.MayRun.{MayRun}
 use Rattle.task_run.specs.RunTurns.{CanTurn, FirstIsOf, KnowsFirst, NextIsOf}
 use Rattle.task_run.specs.Standings.{state_of, with_own}
@@ -83,17 +83,28 @@ module _ (p : Program) (needs : Codes → Needs) (scoped : IsScoped p) (calm : I
   belongs (leaves {s = s} {before = before} {fs = fs} {st = st} {x = x} rs r all e) =
       handed_kept p s.owned before x fs st (belongs r)
 
-  -- each path has one start: what a task of a listed path owns in the end is what is listed
-  pub given_back : {u : Start} {st : State Own} → Reached p needs fresh root u (record { frames = []; state = st }) → (c : Child)
-      → Belongs p c → IsGivenChild p needs fresh root c → pointwise nat_eq st.path c.listed.path ≡ true → (q : Place)
-      → (st.extra.owned q || back_from st.extra.pending q) ≡ has c.listed.windows q
-  given_back {u} {st} end c of is e q =
-      let task = (goes p needs scoped calm provided fresh root named may_begin end).task in
-      let path : u.path ≡ c.start.path = sym task.path ∙ paths_same st.path c.listed.path e ∙ is.listed in
-      let same : u ≡ c.start = same_Some _ _ (sym task.comes ∙ ap (given p needs fresh root) path ∙ is.is) in
-      ended_places p u.owned st.extra.owned st.extra.pending (belongs end) q
-      ∙ ap (λ (v : Start). v.owned q) same
-      ∙ of.places q
+  -- each path has one start: what the task of a listed path owns at its start is what is listed
+  owns_listed : {u : Start} {t : Standing Own} → Reached p needs fresh root u t → (c : Child) → Belongs p c
+      → IsGivenChild p needs fresh root c → u.path ≡ c.listed.path → (q : Place) → u.owned q ≡ has c.listed.windows q
+  owns_listed {u} r c of is path q =
+      let task = (goes p needs scoped calm provided fresh root named may_begin r).task in
+      let same : u ≡ c.start = same_Some _ _ (sym task.comes ∙ ap (given p needs fresh root) (path ∙ is.listed) ∙ is.is) in
+      ap (λ (v : Start). v.owned q) same ∙ of.places q
+
+  -- so is what its result owns, with what comes back to it
+  pub given_back : (r : TaskResult) → IsWholeOrEnded p needs fresh root r → (c : Child)
+      → Belongs p c → IsGivenChild p needs fresh root c → pointwise nat_eq r.path c.listed.path ≡ true → (q : Place)
+      → (r.owned q || returned r.children q) ≡ has c.listed.windows q
+  given_back r (has_ended k) c of is e q =
+      let task = (goes p needs scoped calm provided fresh root named may_begin k.ended).task in
+      let path : k.start.path ≡ c.listed.path =
+      sym task.path ∙ ap (λ (x : TaskResult). x.path) (sym k.is) ∙ paths_same r.path c.listed.path e in
+      ap (λ (x : TaskResult). x.owned q || returned x.children q) k.is
+      ∙ ended_places p k.start.owned k.state.extra.owned k.state.extra.pending (belongs k.ended) q
+      ∙ owns_listed k.ended c of is path q
+  given_back r (ran_whole {s = s} starts made) c of is e q =
+      let path : s.path ≡ c.listed.path = ap (λ (x : TaskResult). x.path) (sym made) ∙ paths_same r.path c.listed.path e in
+      ap (λ (x : TaskResult). x.owned q || returned x.children q) made ∙ or-false (s.owned q) ∙ owns_listed starts c of is path q
 
   -- each listed task is given its start
   pub children_given : {s : Start} {t : Standing Own} → Reached p needs fresh root s t
@@ -102,12 +113,12 @@ module _ (p : Program) (needs : Codes → Needs) (scoped : IsScoped p) (calm : I
       lists_given p needs fresh root s t.frames t.state (goes p needs scoped calm provided fresh root named may_begin r).task
 
 -- ---- sound and accepted programs
--- what the task of a child's path owns in the end, with what comes back to it, is what is listed
--- for the child
+-- what the result of a child's path owns, with what comes back to it, is what is listed for the
+-- child
 abbrev pub IsGivenBack : Program → List (List ℤ) → Budget → Child → Type 0
 IsGivenBack p input b c =
-    (r : TaskResult) (k : IsTaskResult p input b r) → pointwise nat_eq k.state.path c.listed.path ≡ true → (q : Place)
-    → (k.state.extra.owned q || back_from k.state.extra.pending q) ≡ has c.listed.windows q
+    (r : TaskResult) → IsMadeByTask p input b r → pointwise nat_eq r.path c.listed.path ≡ true → (q : Place)
+    → (r.owned q || returned r.children q) ≡ has c.listed.windows q
 
 module _ (p : Program) (sound : IsSound p) (accepted : IsAccepted p) (input : List (List ℤ)) (b : Budget)
     (fits : FitsArrays p.arrays input) where
@@ -155,7 +166,7 @@ module _ (p : Program) (sound : IsSound p) (accepted : IsAccepted p) (input : Li
       each_both (Belongs p) (IsGivenChild p (needs_of p) b.steps (root_of p input b.nest)) (IsGivenBack p input b)
       t.state.extra.pending
       (λ c of is r k e q. given_back p (needs_of p) (is_scoped p sound) (is_calm p sound accepted) (provides_needs p sound) b.steps
-      (root_of p input b.nest) refl begins_root main_part (statement_text p sound) k.ended c of is e q)
+      (root_of p input b.nest) refl begins_root main_part (statement_text p sound) r k c of is e q)
       (belongs p (needs_of p) (is_scoped p sound) (is_calm p sound accepted) (provides_needs p sound) b.steps
       (root_of p input b.nest) refl begins_root main_part (statement_text p sound) stands).children
       (children_given p (needs_of p) (is_scoped p sound) (is_calm p sound accepted) (provides_needs p sound) b.steps

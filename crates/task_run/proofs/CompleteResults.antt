@@ -102,53 +102,72 @@ module _ (p : Program) (needs : Codes → Needs) (fresh : ℕ) (root : Start) wh
     pub is : IsGivenChild p needs fresh root c
     pub nest : c.start.nest ≡ n
 
+  -- for each start a result, and others with which it settles to what the start comes to
+  module _ (head : Start → TaskResult) (tail : Start → List TaskResult) where
+    abbrev both : Child → List TaskResult
+    both c = head c.start ∷ tail c.start
+
+    abbrev pub Settles : ℕ → Start → Type 0
+    Settles k s = (ts rs : List TaskResult) → Shuffled (tail s ++ ts) rs → NoTwice rs
+        → IsParted (head s) → Each IsParted rs → length rs < k
+        → Done (settle_within k (head s) rs) (comes_to p needs fresh s) ts rs
+
+    pub fill_with : ((s : Start) → (head s).path ≡ s.path) → (k n : ℕ)
+        → ((s : Start) → s.nest ≡ n → IsGiven p needs fresh root s → Settles k s)
+        → (owned : Places) (cs : List Child) (so_far : Settled) (ts rs : List TaskResult)
+        → Each (Stands n) cs
+        → Shuffled (flat_map both cs ++ ts) rs → NoTwice rs → Parted owned (map (λ c. c.listed) cs) → Each IsParted rs → length rs ≤ k
+        → Done (fill_all (settle_within k) owned (map (λ c. c.listed) cs) so_far rs) (filled p needs fresh cs so_far) ts rs
+    fill_with at k n deep owned [] so_far ts rs h s o pt ps le =
+        record { rest = rs; is = refl; left = s; once = o; parted = ps; fewer = le_refl (length rs) }
+    fill_with at k n deep owned (c ∷ cs) so_far ts rs h s o pt ps le =
+        let r = head c.start in
+        let i = pick (subst (λ l. Shuffled (r ∷ l) rs) (append_assoc (tail c.start) (flat_map both cs) ts) s) in
+        let long = length_inserted i.put in
+        let mine = inserted_each IsParted i.put ps in
+        let more : Places = λ q. owned q || has c.listed.windows q in
+        let named : r.path ≡ c.listed.path = at c.start ∙ sym h.0.is.listed in
+        let take_it = ap (λ q. take q rs) (sym named) ∙ taken_one r i.others rs i.put o in
+        let child =
+        deep c.start h.0.nest h.0.is.is (flat_map both cs ++ ts) i.others i.left (inserted_once i.put o) mine.0 mine.1
+        (omega (arith, long, le)) in
+        let fewer = child.fewer in
+        let others =
+        fill_with at k n deep more cs
+        (fill c.listed (comes_to p needs fresh c.start) so_far) ts child.rest h.1 child.left child.once pt.1 child.parted
+        (omega (arith, fewer, long, le)) in
+        let less = others.fewer in
+        record {
+          rest = others.rest;
+          is =
+              ap (λ b. if b then None else and_then (take c.listed.path rs)
+              (λ found. and_then (settle_within k found.0 found.1)
+              (λ x. fill_all (settle_within k) more (map (λ c. c.listed) cs) (fill c.listed x.0 so_far) x.1)))
+              (not_met owned c.listed.windows pt.0)
+              ∙ ap (λ o. and_then o
+              (λ found. and_then (settle_within k found.0 found.1)
+              (λ x. fill_all (settle_within k) more (map (λ c. c.listed) cs) (fill c.listed x.0 so_far) x.1))) take_it
+              ∙ ap (λ o. and_then o (λ x. fill_all (settle_within k) more (map (λ c. c.listed) cs) (fill c.listed x.0 so_far) x.1)) child.is
+              ∙ others.is;
+          left = others.left;
+          once = others.once;
+          parted = others.parted;
+          fewer = omega (arith, less, fewer, long);
+        }
+
+  -- the result of a task's own run
+  abbrev ended : Start → TaskResult
+  ended s = result_of (own p needs fresh s)
+
   abbrev pub Deep : ℕ → ℕ → Type 0
-  Deep k n = (s : Start) → s.nest ≡ n → IsGiven p needs fresh root s → (ts rs : List TaskResult)
-      → Shuffled (below p needs fresh n s ++ ts) rs → NoTwice rs
-      → IsParted (result_of (own p needs fresh s)) → Each IsParted rs → length rs < k
-      → Done (settle_within k (result_of (own p needs fresh s)) rs) (comes_to p needs fresh s) ts rs
+  Deep k n = (s : Start) → s.nest ≡ n → IsGiven p needs fresh root s → Settles ended (below p needs fresh n) k s
 
   pub fill_complete : (k n : ℕ) → Deep k n → (owned : Places) (cs : List Child) (so_far : Settled) (ts rs : List TaskResult)
       → Each (Stands n) cs
       → Shuffled (flat_map (results p needs fresh n) cs ++ ts) rs → NoTwice rs → Parted owned (map (λ c. c.listed) cs) → Each IsParted rs → length rs ≤ k
       → Done (fill_all (settle_within k) owned (map (λ c. c.listed) cs) so_far rs) (filled p needs fresh cs so_far) ts rs
-  fill_complete k n deep owned [] so_far ts rs h s o pt ps le =
-      record { rest = rs; is = refl; left = s; once = o; parted = ps; fewer = le_refl (length rs) }
-  fill_complete k n deep owned (c ∷ cs) so_far ts rs h s o pt ps le =
-      let r = result_of (own p needs fresh c.start) in
-      let tail = below p needs fresh n c.start in
-      let i = pick (subst (λ l. Shuffled (r ∷ l) rs) (append_assoc tail (flat_map (results p needs fresh n) cs) ts) s) in
-      let long = length_inserted i.put in
-      let mine = inserted_each IsParted i.put ps in
-      let more : Places = λ q. owned q || has c.listed.windows q in
-      let at : r.path ≡ c.listed.path = own_path p needs fresh c.start ∙ sym h.0.is.listed in
-      let take_it = ap (λ q. take q rs) (sym at) ∙ taken_one r i.others rs i.put o in
-      let child =
-      deep c.start h.0.nest h.0.is.is (flat_map (results p needs fresh n) cs ++ ts) i.others i.left (inserted_once i.put o) mine.0 mine.1
-      (omega (arith, long, le)) in
-      let fewer = child.fewer in
-      let others =
-      fill_complete k n deep more cs
-      (fill c.listed (comes_to p needs fresh c.start) so_far) ts child.rest h.1 child.left child.once pt.1 child.parted
-      (omega (arith, fewer, long, le)) in
-      let less = others.fewer in
-      record {
-        rest = others.rest;
-        is =
-            ap (λ b. if b then None else and_then (take c.listed.path rs)
-            (λ found. and_then (settle_within k found.0 found.1)
-            (λ x. fill_all (settle_within k) more (map (λ c. c.listed) cs) (fill c.listed x.0 so_far) x.1)))
-            (not_met owned c.listed.windows pt.0)
-            ∙ ap (λ o. and_then o
-            (λ found. and_then (settle_within k found.0 found.1)
-            (λ x. fill_all (settle_within k) more (map (λ c. c.listed) cs) (fill c.listed x.0 so_far) x.1))) take_it
-            ∙ ap (λ o. and_then o (λ x. fill_all (settle_within k) more (map (λ c. c.listed) cs) (fill c.listed x.0 so_far) x.1)) child.is
-            ∙ others.is;
-        left = others.left;
-        once = others.once;
-        parted = others.parted;
-        fewer = omega (arith, less, fewer, long);
-      }
+  fill_complete k n deep owned cs so_far ts rs h s o pt ps le =
+      fill_with ended (below p needs fresh n) (own_path p needs fresh) k n deep owned cs so_far ts rs h s o pt ps le
 
   pub stands : (n : ℕ) (s : Start) → s.nest ≡ suc n → IsGiven p needs fresh root s → Each (Stands n) (own p needs fresh s).extra.pending
   stands n s e is =

@@ -11,11 +11,12 @@ use Rattle.task_run.specs.Places.{Places, meets}
 use Rattle.task_run.specs.Results.{TaskResult, Settled, none_yet, fill}
 use Rattle.task_run.specs.OwnRun.{Start, Child, result_of}
 use Rattle.task_run.specs.Given.{own, given, IsOwn, below}
+use Rattle.task_run.specs.InPlace.{own_run}
 use Rattle.std.specs.Cmp.Lexicographic.{pointwise}
 use Rattle.task_run.specs.Settling.{behind, take, fill_all, settle_within, none_left, settle}
 use Rattle.task_run.specs.Lists.{Each, Inserted, here, later, Shuffled, none, one}
 use Rattle.task_run.proofs.OnePath.{results}
-use Rattle.task_run.proofs.SettledResults.{unless_none, gives, taken, IsGiven, settle_sound}
+use Rattle.task_run.proofs.SettledResults.{unless_none, gives, taken, IsGiven, own_made, settle_sound}
 use Rattle.task_run.proofs.CompleteResults.{Stands, stands, lists_none}
 
 -- a result that was taken was in the list
@@ -62,7 +63,9 @@ module _ (p : Program) (needs : Codes → Needs) (fresh : ℕ) (root : Start) wh
       let is_own : g.one.0 ≡ r = t.this c.start (ap (given p needs fresh root) (t.at ∙ h.0.is.listed) ∙ h.0.is.is) in
       let deeper = ap (λ r. settle_within k r g.one.1) (sym is_own) ∙ f.first in
       let child = deep c.start h.0.nest h.0.is.is g.one.1 t.others f.one deeper in
-      let others = (settle_sound p needs fresh root k c.start h.0.is.is g.one.1 t.others f.one deeper).others in
+      let others =
+      (settle_sound p needs fresh root (IsOwn p needs fresh root) (own_made p needs fresh root) k c.start h.0.is.is r
+      (own_run refl) g.one.1 t.others f.one deeper).others in
       let tail =
       fill_used k n deep (λ q. owned q || has c.listed.windows q) cs
       (fill c.listed f.one.0 so_far) f.one.1 h.1 others x f.next ts sh in

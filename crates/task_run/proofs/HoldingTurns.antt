@@ -22,7 +22,8 @@ use Rattle.race_checker.specs.Calm.{IsCalm}
 use Rattle.task_run.specs.Results.{TaskResult, Settled, none_yet, complete}
 use Rattle.task_run.specs.OwnRun.{Action, Start, Own, Step, at_first, result_of, back_from, own_rules}
 use Rattle.task_run.specs.OwnRun.{beginning}
-use Rattle.task_run.specs.Given.{filled, root_of, IsOwn}
+use Rattle.task_run.specs.Given.{filled, root_of}
+use Rattle.task_run.specs.InPlace.{IsMade}
 use Rattle.task_run.specs.Frames.{Frame, Rest, Again, Further, AtEnd, OnFault, Back, Standing, handled, paid, by_flow}
 use Rattle.task_run.specs.Frames.{turn}
 use Rattle.task_run.specs.Frames.{handed, IsTask}
@@ -335,8 +336,8 @@ module _ (p : Program) (needs : Codes → Needs) (is_scoped : IsScoped p) (is_ca
           | inr k ↦ or_right (st.extra.owned q) (back_from st.extra.pending q) k
         ]
 
-    -- with results of own runs
-    pub handed_holds : (root s : Start) (rs : List TaskResult) → Each (IsOwn p needs fresh root) rs
+    -- with results of tasks
+    pub handed_holds : (root s : Start) (rs : List TaskResult) → Each (IsMade p needs fresh root) rs
         → (before : State Own) (fs : List (Frame Own)) (st : State Own)
         → IsTask p needs fresh root s (record { frames = AtEnd before ∷ fs; state = st })
         → Holds p needs (record { frames = AtEnd before ∷ fs; state = st })

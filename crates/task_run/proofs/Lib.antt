@@ -29,6 +29,7 @@ pub mod RunsGoOn
 pub mod SettledResults
 pub mod SideBySide
 pub mod Simulation
+pub mod SomeWhole
 pub mod Stacks
 pub mod StartsWorth
 pub mod StaysStopped
@@ -43,4 +44,6 @@ pub mod TurnsLeft
 pub mod TurnsBelong
 pub mod TurnsResume
 pub mod TurnsToCome
+pub mod WholeTasks
 pub mod Windows
+pub mod WholeRuns

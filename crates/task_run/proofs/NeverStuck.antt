@@ -29,7 +29,7 @@ use Rattle.task_run.specs.Lists.{Each, Shuffled, none, one, here}
 use Rattle.task_run.proofs.Lists.{each_more, each_append}
 use Rattle.task_run.specs.Settling.{NoTwice}
 use Rattle.task_run.proofs.CompleteResults.{Stands, fill_complete, settle_complete, none_in}
-use Rattle.task_run.proofs.TaskRuns.{lists_given, each_if_given}
+use Rattle.task_run.proofs.TaskRuns.{lists_given, made_if_given}
 use Rattle.task_run.proofs.OnePath.{Once, Names, names, From, own_path, all_once, below_once, shuffled_each}
 use Rattle.task_run.proofs.SettledResults.{lists_true}
 use Rattle.task_run.proofs.TasksEnd.{own_ends, each_below, below_parted, weight, Falls, spends, sheds, flow_falls}
@@ -314,5 +314,5 @@ module _ (p : Program) (needs : Codes → Needs) (scoped : IsScoped p) (calm : I
         (λ before fs st r lighter.
         let k = can_leave s (record { frames = AtEnd before ∷ fs; state = st }) r in
         lighter (handed before k.comes st) (le_refl st.steps)
-        (leaves k.results r (each_if_given p needs fresh root k.results k.owns) k.settles))
+        (leaves k.results r (made_if_given p needs fresh root k.results k.owns) k.settles))
         (λ f fs st r. inr (turns r)) t.frames t.state r

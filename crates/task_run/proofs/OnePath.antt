@@ -150,10 +150,10 @@ shuffled_once (one i s) h = inserted_once i (shuffled_each _ s h.0) (shuffled_on
 
 module _ (p : Program) (needs : Codes → Needs) (fresh : ℕ) where
   -- a result of a task below another, by its path
-  record Under (base : List ℕ) (x : TaskResult) : Type 0 where
-    number : ℕ
-    rest : List ℕ
-    path : x.path ≡ base ++ suc number ∷ rest
+  pub record Under (base : List ℕ) (x : TaskResult) : Type 0 where
+    pub number : ℕ
+    pub rest : List ℕ
+    pub path : x.path ≡ base ++ suc number ∷ rest
 
   pub record From (base : List ℕ) (c : Child) : Type 0 where
     pub number : ℕ
@@ -170,46 +170,18 @@ module _ (p : Program) (needs : Codes → Needs) (fresh : ℕ) where
   pub own_path : (s : Start) → (own p needs fresh s).path ≡ s.path
   own_path s = (run_tells s.nest needs (in_truth p needs fresh) p (Block s.body) (beginning (at_first s.owned) fresh s)).path
 
-  own_once : (s : Start) → Once (own p needs fresh s).extra.pending
+  pub own_once : (s : Start) → Once (own p needs fresh s).extra.pending
   own_once s =
       run_once s.nest needs (in_truth p needs fresh) p (Block s.body) (beginning (at_first s.owned) fresh s)
       (at_first_fine s.nest needs (in_truth p needs fresh) fresh s) tt
 
-  own_from : (s : Start) → Each (From s.path) (own p needs fresh s).extra.pending
+  pub own_from : (s : Start) → Each (From s.path) (own p needs fresh s).extra.pending
   own_from s =
       let end = own p needs fresh s in
       let t = run_tells s.nest needs (in_truth p needs fresh) p (Block s.body) (beginning (at_first s.owned) fresh s) in
       each_more (IsBegun s.nest end) (From s.path) end.extra.pending
       (λ c h. record { number = h.number; path = h.path ∙ ap (λ q. q ++ suc h.number ∷ []) t.path })
       (t.fine (at_first_fine s.nest needs (in_truth p needs fresh) fresh s)).begun
-
-  all_under : (n : ℕ) (base : List ℕ) (cs : List Child) → Each (From base) cs
-      → ((s : Start) → Each (Under s.path) (below p needs fresh n s)) → Each (Under base) (flat_map (results n) cs)
-  all_under n base [] f h = tt
-  all_under n base (c ∷ cs) f h = (
-    record { number = f.0.number; rest = []; path = own_path c.start ∙ f.0.path },
-    each_append (Under base) (below p needs fresh n c.start) (flat_map (results n) cs)
-        (each_more (Under c.start.path) (Under base) (below p needs fresh n c.start)
-        (λ x u. record {
-          number = f.0.number;
-          rest = suc u.number ∷ u.rest;
-          path =
-              u.path ∙ ap (λ q. q ++ suc u.number ∷ u.rest) f.0.path ∙ append_assoc base (suc f.0.number ∷ []) (suc u.number ∷ u.rest);
-        })
-        (h c.start))
-        (all_under n base cs f.1 h),
-  )
-
-  below_under : (n : ℕ) (s : Start) → Each (Under s.path) (below p needs fresh n s)
-  below_under zero s = tt
-  below_under (suc n) s = all_under n s.path (own p needs fresh s).extra.pending (own_from s) (below_under n)
-
-  child_extends : (n : ℕ) (c : Child) → Each (Extends c.start.path) (results n c)
-  child_extends n c = (
-    record { rest = []; path = own_path c.start ∙ sym (append-nil c.start.path) },
-    each_more (Under c.start.path) (Extends c.start.path) (below p needs fresh n c.start)
-        (λ x u. record { rest = suc u.number ∷ u.rest; path = u.path }) (below_under n c.start),
-  )
 
   -- results of different children
   crossed : (base : List ℕ) (c d : Child) → From base c → From base d → d.start.path ≢ c.start.path → (x y : TaskResult)
@@ -220,27 +192,69 @@ module _ (p : Program) (needs : Codes → Needs) (fresh : ℕ) where
       ∙ ap (λ q. q ++ h.rest) f.path ∙ append_assoc base (suc f.number ∷ []) h.rest) in
       ne (g.path ∙ ap (λ j. base ++ suc j ∷ []) same ∙ sym f.path)
 
-  cross_one : (n : ℕ) (base : List ℕ) (c : Child) (x : TaskResult) → From base c → Extends c.start.path x → (cs : List Child)
-      → Each (From base) cs
-      → Each (λ d. d.start.path ≢ c.start.path) cs → Each (Apart x) (flat_map (results n) cs)
-  cross_one n base c x f h [] g o = tt
-  cross_one n base c x f h (d ∷ cs) g o =
-      each_append (Apart x) (results n d) (flat_map (results n) cs)
-      (each_more (Extends d.start.path) (Apart x) (results n d) (λ y k. crossed base c d f g.0 o.0 x y h k) (child_extends n d))
-      (cross_one n base c x f h cs g.1 o.1)
+  -- for each start a result with its path, and others with longer paths
+  module _ (head : Start → TaskResult) (tail : Start → List TaskResult) (at : (s : Start) → (head s).path ≡ s.path)
+      (under : (s : Start) → Each (Under s.path) (tail s)) where
+    abbrev both : Child → List TaskResult
+    both c = head c.start ∷ tail c.start
+
+    pub all_under : (base : List ℕ) (cs : List Child) → Each (From base) cs → Each (Under base) (flat_map both cs)
+    all_under base [] f = tt
+    all_under base (c ∷ cs) f = (
+      record { number = f.0.number; rest = []; path = at c.start ∙ f.0.path },
+      each_append (Under base) (tail c.start) (flat_map both cs)
+          (each_more (Under c.start.path) (Under base) (tail c.start)
+          (λ x u. record {
+            number = f.0.number;
+            rest = suc u.number ∷ u.rest;
+            path =
+                u.path ∙ ap (λ q. q ++ suc u.number ∷ u.rest) f.0.path ∙ append_assoc base (suc f.0.number ∷ []) (suc u.number ∷ u.rest);
+          })
+          (under c.start))
+          (all_under base cs f.1),
+    )
+
+    child_extends : (c : Child) → Each (Extends c.start.path) (both c)
+    child_extends c = (
+      record { rest = []; path = at c.start ∙ sym (append-nil c.start.path) },
+      each_more (Under c.start.path) (Extends c.start.path) (tail c.start)
+          (λ x u. record { rest = suc u.number ∷ u.rest; path = u.path }) (under c.start),
+    )
+
+    cross_one : (base : List ℕ) (c : Child) (x : TaskResult) → From base c → Extends c.start.path x → (cs : List Child)
+        → Each (From base) cs
+        → Each (λ d. d.start.path ≢ c.start.path) cs → Each (Apart x) (flat_map both cs)
+    cross_one base c x f h [] g o = tt
+    cross_one base c x f h (d ∷ cs) g o =
+        each_append (Apart x) (both d) (flat_map both cs)
+        (each_more (Extends d.start.path) (Apart x) (both d) (λ y k. crossed base c d f g.0 o.0 x y h k) (child_extends d))
+        (cross_one base c x f h cs g.1 o.1)
+
+    pub none_twice : (base : List ℕ) (cs : List Child) → Each (From base) cs → Once cs
+        → ((s : Start) → NoTwice (tail s)) → NoTwice (flat_map both cs)
+    none_twice base [] f o h = tt
+    none_twice base (c ∷ cs) f o h =
+        no_twice-append (both c) (flat_map both cs) (
+          each_more (Under c.start.path) (Apart (head c.start)) (tail c.start)
+              (λ x u e. longer c.start.path (suc u.number) u.rest (sym u.path ∙ e ∙ at c.start)) (under c.start),
+          h c.start,
+        )
+        (none_twice base cs f.1 o.1 h)
+        (each_more (Extends c.start.path) (λ x. Each (Apart x) (flat_map both cs)) (both c)
+        (λ x k. cross_one base c x f.0 k cs f.1 o.0) (child_extends c))
+
+  -- the result of a task's own run
+  abbrev ended : Start → TaskResult
+  ended s = result_of (own p needs fresh s)
+
+  below_under : (n : ℕ) (s : Start) → Each (Under s.path) (below p needs fresh n s)
+  below_under zero s = tt
+  below_under (suc n) s =
+      all_under ended (below p needs fresh n) own_path (below_under n) s.path (own p needs fresh s).extra.pending (own_from s)
 
   pub all_once : (n : ℕ) (base : List ℕ) (cs : List Child) → Each (From base) cs → Once cs
       → ((s : Start) → NoTwice (below p needs fresh n s)) → NoTwice (flat_map (results n) cs)
-  all_once n base [] f o h = tt
-  all_once n base (c ∷ cs) f o h =
-      no_twice-append (results n c) (flat_map (results n) cs) (
-        each_more (Under c.start.path) (Apart (result_of (own p needs fresh c.start))) (below p needs fresh n c.start)
-            (λ x u e. longer c.start.path (suc u.number) u.rest (sym u.path ∙ e ∙ own_path c.start)) (below_under n c.start),
-        h c.start,
-      )
-      (all_once n base cs f.1 o.1 h)
-      (each_more (Extends c.start.path) (λ x. Each (Apart x) (flat_map (results n) cs)) (results n c)
-      (λ x k. cross_one n base c x f.0 k cs f.1 o.0) (child_extends n c))
+  all_once n base cs f o h = none_twice ended (below p needs fresh n) own_path (below_under n) base cs f o h
 
   -- no path has two results below a task
   pub below_once : (n : ℕ) (s : Start) → NoTwice (below p needs fresh n s)

@@ -1,4 +1,5 @@
 -- In a sound and accepted program each reachable task is its own run, and has all that it touches.
+use Rattle.std.proofs.lemmas.Option.{same_Some}
 use Rattle.std.proofs.Common.{◌≡◌, ℕ, List, [], ◌∷◌, Some, sym, ap, ◌∙◌, subst}
 use Rattle.sections.specs.Member.{Member, first, next}
 use Rattle.types.specs.Code.{Code, Do, If, While, Split, Parts, Begun, Call, Async, Finish, Rescue, Codes, End, Then}
@@ -10,11 +11,14 @@ use Rattle.race_checker.specs.Calm.{IsCalm}
 use Rattle.task_run.specs.Results.{TaskResult}
 use Rattle.task_run.specs.OwnRun.{Start, Own, result_of}
 use Rattle.task_run.specs.Given.{own, given, in_truth, IsOfOwnRun, IsOwn}
+use Rattle.task_run.specs.InPlace.{whole, whole_run, IsMade}
 use Rattle.task_run.specs.Frames.{Frame, Rest, Again, Further, AtEnd, OnFault, Back, Standing, IsTask, IsGivenChild}
 use Rattle.task_run.specs.Holds.{MayBegin, Carries, Holds}
-use Rattle.task_run.specs.Reached.{Reached, root_begins, child_begins, turns, leaves, IsResult, HasNeedsOf, HasNext}
+use Rattle.task_run.specs.Reached.{Reached, root_begins, child_begins, turns, leaves, begun, IsResult, HasNeedsOf, HasNext}
+use Rattle.task_run.specs.Reached.{IsWholeOrEnded, has_ended, ran_whole}
 use Rattle.task_run.specs.Lists.{Each}
 use Rattle.task_run.specs.Settling.{IsParted}
+use Rattle.task_run.proofs.SettledResults.{own_made}
 use Rattle.task_run.proofs.TaskRuns.{begins_task, turns_task, lists_given, leaves_task, ends_task, of_own_run}
 use Rattle.task_run.proofs.HoldingTurns.{turn_holds, handed_holds, first_has, again_has, async_has, begin_holds}
 
@@ -100,6 +104,17 @@ module _ (p : Program) (needs : Codes → Needs) (scoped : IsScoped p) (calm : I
 
     pub ends_own : (r : TaskResult) → IsResult p needs fresh root r → IsOwn p needs fresh root r
     ends_own r k = subst (IsOwn p needs fresh root) (sym k.is) (ends_task p needs fresh root k.start k.state (goes k.ended).task)
+
+    -- a task that can start has all that its body touches
+    pub may_start : (s : Start) → Reached p needs fresh root s (begun fresh s) → MayBegin p needs s
+    may_start s r = let k = (goes r).holds in record { stack = k.stack; text = k.texts.0 }
+
+    pub results_made : (r : TaskResult) → IsWholeOrEnded p needs fresh root r → IsMade p needs fresh root r
+    results_made r (has_ended k) = own_made p needs fresh root r (ends_own r k)
+    results_made r (ran_whole {s = s} starts is) = λ t e.
+        let given_s : given p needs fresh root r.path ≡ Some s =
+        ap (λ (x : TaskResult). given p needs fresh root x.path) is ∙ (goes starts).task.comes in
+        whole_run (is ∙ ap (whole p needs fresh) (same_Some _ _ (sym given_s ∙ e)))
 
     -- at its end the root has what its own run has
     pub root_ends : (st : State Own) → Reached p needs fresh root root (record { frames = []; state = st })

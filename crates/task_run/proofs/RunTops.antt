@@ -139,3 +139,8 @@ pub on_this : (gs hs : List rFrame) (g t : rFrame) (to : Frame Own) (fs : List (
 on_this gs hs g t to fs e is only stacked P h =
     on_frame gs hs g t fs e is stacked P
     (λ f below shows rest. subst (λ (f : Frame Own). P (f ∷ below)) (sym (only f shows)) (h below rest))
+
+-- a list has one element at each position
+pub one_there : {A : Type 0} (xs : List A) (k : ℕ) (x y : A) → k < length xs → x ≡ slice_index_or xs k x → slice_index_or xs k y ≡ y
+    → x ≡ y
+one_there xs k x y lt is at = is ∙ same_Some _ _ (sym (slice_get-get_or xs k x lt) ∙ slice_get-get_or xs k y lt) ∙ at

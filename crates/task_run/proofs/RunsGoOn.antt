@@ -10,12 +10,13 @@ use Rattle.effects.specs.Rounds.{needs_of}
 use Rattle.effects.specs.Sound.{IsSound}
 use Rattle.race_checker.specs.Clash.{IsAccepted}
 use Rattle.task_run.specs.Frames.{Frame, Rest, Again, Further, AtEnd, OnFault, Back, Standing, done_in, handed, turn}
-use Rattle.task_run.specs.Given.{in_truth, root_of, IsOwn}
+use Rattle.task_run.specs.Given.{in_truth, root_of}
+use Rattle.task_run.specs.InPlace.{IsMade}
 use Rattle.task_run.specs.MayRun.{MayRun, MayStart, MayWait, IsRunOf, Stays}
 use Rattle.task_run.specs.OwnRun.{Own, Spawn, Start, own_rules, result_of}
 use Rattle.task_run.specs.Quiet.{Quietly, here, further}
 use Rattle.task_run.specs.Reached.{begun, child_begins, turns, leaves}
-use Rattle.task_run.specs.Runs.{IsTaskResult, MayStand}
+use Rattle.task_run.specs.Runs.{IsMadeByTask, MayStand}
 use Rattle.task_run.specs.RunTurns.{GoesAs, GoesOn, GoesTo, IsTurn, TurnOf}
 use Rattle.task_run.specs.Results.{TaskResult, Settled}
 use Rattle.task_run.specs.Settling.{settle}
@@ -28,7 +29,7 @@ use Rattle.task_run.specs.declared.start.Start.{Start as rStart}
 use Rattle.task_run.specs.declared.turn.Paused.{Paused}
 use Rattle.task_run.specs.declared.turn.Turn.{Turn}
 use Rattle.task_run.specs.declared.turn.Turn.TheVariants.{Going, Spawns, EntersFinish, EndsFinish, Ended, Over}
-use Rattle.task_run.proofs.AcceptedPrograms.{results_own}
+use Rattle.task_run.proofs.AcceptedPrograms.{made}
 use Rattle.task_run.proofs.Children.{turn_lists}
 use Rattle.task_run.proofs.Lists.{each_more}
 
@@ -168,16 +169,16 @@ module _ (p : Program) (sound : IsSound p) (accepted : IsAccepted p) (input : Li
     (fits : FitsArrays p.arrays input) where
   behind_finish : (s : Start) (before : State Own) (fs : List (Frame Own)) (st : State Own)
       → MayStand p input b s (record { frames = AtEnd before ∷ fs; state = st })
-      → (rs : List TaskResult) → Each (IsTaskResult p input b) rs → (x : Settled) → settle (result_of st) rs ≡ Some x
+      → (rs : List TaskResult) → Each (IsMadeByTask p input b) rs → (x : Settled) → settle (result_of st) rs ≡ Some x
       → MayStand p input b s (record { frames = fs; state = handed before x st })
   behind_finish s before fs st stands rs all x e =
       leaves rs stands
-      (each_more (IsTaskResult p input b) (IsOwn p (needs_of p) b.steps (root_of p input b.nest)) rs
-      (results_own p sound accepted input b fits) all)
+      (each_more (IsMadeByTask p input b) (IsMade p (needs_of p) b.steps (root_of p input b.nest)) rs
+      (made p sound accepted input b fits) all)
       e
 
   pub goes_behind : (q : Paused) (so_far : rTaskResult) (w : MayWait p input b q so_far) (rs : List TaskResult)
-      → Each (IsTaskResult p input b) rs → (x : Settled) → settle (task_result so_far) rs ≡ Some x
+      → Each (IsMadeByTask p input b) rs → (x : Settled) → settle (task_result so_far) rs ≡ Some x
       → (r : Run) → r.plan ≡ q.plan → r.thread.nest ≡ q.nest
       → IsAt r (record { frames = w.frames; state = handed w.before x w.state }) → IsRunOf p input b w.start r
   goes_behind q so_far w rs all x e r plan nest at =

@@ -15,6 +15,7 @@ use Rattle.task_run.specs.Results.{TaskResult, Settled, none_yet, complete, and_
 use Rattle.task_run.specs.OwnRun.{Start, Action, Own, EndFinish, at_first, notes, result_of, leave_with, own_rules}
 use Rattle.task_run.specs.OwnRun.{begun_by, beginning, from_receipts, run_by}
 use Rattle.task_run.specs.Given.{filled, in_truth, own, given, IsOfOwnRun, IsOwn}
+use Rattle.task_run.specs.InPlace.{IsMade}
 use Rattle.task_run.specs.Frames.{Frame, Rest, Again, Further, AtEnd, OnFault, Back, Standing, resume, paid, by_flow}
 use Rattle.task_run.specs.Frames.{turn, handed}
 use Rattle.task_run.specs.Frames.{IsBegun, HasBegun, HasBegunBelow, IsGivenChild, IsTask, Follows}
@@ -22,7 +23,7 @@ use Rattle.task_run.specs.Settling.{settle}
 use Rattle.task_run.specs.Lists.{Each}
 use Rattle.task_run.proofs.Lists.{each_more}
 use Rattle.task_run.proofs.Begun.{at_first_fine, quiet, begun_by-append, still_begun}
-use Rattle.task_run.proofs.SettledResults.{begun_is_true, part_sound}
+use Rattle.task_run.proofs.SettledResults.{begun_is_true, each_made, part_sound}
 use Rattle.task_run.proofs.TurnsResume.{turn_keeps}
 use Rattle.task_run.proofs.TaskTurns.{own_thrifty, resume_grows, turn_kept}
 use Rattle.shared_lemmas.proofs.Lists.{get-append_left}
@@ -34,6 +35,9 @@ module _ (p : Program) (needs : Codes → Needs) (fresh : ℕ) (root : Start) wh
 
   pub each_if_given : (rs : List TaskResult) → Each (IsOfOwnRun p needs fresh root) rs → Each (IsOwn p needs fresh root) rs
   each_if_given rs = each_more (IsOfOwnRun p needs fresh root) (IsOwn p needs fresh root) rs own_if_given
+
+  pub made_if_given : (rs : List TaskResult) → Each (IsOfOwnRun p needs fresh root) rs → Each (IsMade p needs fresh root) rs
+  made_if_given rs all = each_made p needs fresh root rs (each_if_given rs all)
 
   -- unless it waits, a finish ends with what is handed over
   leaves : (nest : ℕ) (close : State Own → Option Settled) (before st : State Own) (x : Settled) → st.extra.waits ≡ false
@@ -135,8 +139,8 @@ module _ (p : Program) (needs : Codes → Needs) (fresh : ℕ) (root : Start) wh
         below_still (OnFault mid y c ∷ fs) k = below_still fs k
         below_still (Back env ∷ fs) k = below_still fs k
 
-    -- with results of own runs
-    pub leaves_task : (rs : List TaskResult) → Each (IsOwn p needs fresh root) rs
+    -- with results of tasks
+    pub leaves_task : (rs : List TaskResult) → Each (IsMade p needs fresh root) rs
         → (before : State Own) (fs : List (Frame Own)) (st : State Own)
         → IsTask p needs fresh root s (record { frames = AtEnd before ∷ fs; state = st }) → (x : Settled)
         → settle (result_of st) rs ≡ Some x

@@ -4,6 +4,7 @@ pub mod Frames
 pub mod Leading
 pub mod Given
 pub mod Holds
+pub mod InPlace
 pub mod Jobs
 pub mod Left
 pub mod Lists
@@ -23,3 +24,4 @@ pub mod Stops
 pub mod TaskKind
 pub mod Translation
 pub mod Worth
+pub mod WholeRuns

@@ -1,5 +1,5 @@
 -- The configurations that the tasks of a run can reach: turn by turn, in any order, with results of
--- own runs.
+-- own runs or of tasks that run whole.
 use Rattle.std.specs.Prelude.{◌≡◌, ℕ, List, [], ◌∷◌, Some}
 use Rattle.sections.specs.Member.{Member}
 use Rattle.types.specs.Code.{Code, While, Async, Codes, Then, Program}
@@ -7,7 +7,8 @@ use Rattle.types.specs.Run.{State}
 use Rattle.effects.specs.Needs.{Needs}
 use Rattle.task_run.specs.Results.{TaskResult, Settled}
 use Rattle.task_run.specs.OwnRun.{Start, Child, Own, at_first, beginning, result_of, own_rules}
-use Rattle.task_run.specs.Given.{in_truth, IsOfOwnRun, IsOwn}
+use Rattle.task_run.specs.Given.{in_truth, IsOfOwnRun}
+use Rattle.task_run.specs.InPlace.{whole, IsMade}
 use Rattle.task_run.specs.Frames.{Frame, Rest, Again, AtEnd, Standing, turn, handed}
 use Rattle.task_run.specs.Holds.{HasOwn, HasNeeds}
 use Rattle.task_run.specs.Settling.{settle}
@@ -28,11 +29,11 @@ module _ (p : Program) (needs : Codes → Needs) (fresh : ℕ) (root : Start) wh
     turns : {s : Start} {f : Frame Own} {fs : List (Frame Own)} {st : State Own}
         → Reached s (record { frames = f ∷ fs; state = st })
         → Reached s (turn p (own_rules needs s.nest (in_truth p needs fresh)) f fs st)
-    -- the end of a finish, if results of own runs settle, in any order
+    -- the end of a finish, if results of tasks settle, in any order
     leaves : {s : Start} {before : State Own} {fs : List (Frame Own)} {st : State Own} {x : Settled}
         (rs : List TaskResult)
         → Reached s (record { frames = AtEnd before ∷ fs; state = st })
-        → Each (IsOwn p needs fresh root) rs → settle (result_of st) rs ≡ Some x
+        → Each (IsMade p needs fresh root) rs → settle (result_of st) rs ≡ Some x
         → Reached s (record { frames = fs; state = handed before x st })
 
   -- the result of a task that has ended
@@ -41,6 +42,12 @@ module _ (p : Program) (needs : Codes → Needs) (fresh : ℕ) (root : Start) wh
     pub state : State Own
     pub ended : Reached start (record { frames = []; state = state })
     pub is : r ≡ result_of state
+
+  -- the result of a task that has ended on its own, or that ran whole
+  pub data IsWholeOrEnded (r : TaskResult) : Type 0 where
+    has_ended : IsResult r → IsWholeOrEnded r
+    ran_whole : {s : Start} → Reached s (begun fresh s) → r ≡ whole p needs fresh s
+        → IsWholeOrEnded r
 
   -- results of own runs settle what a task has made so far
   pub record CanSettle (st : State Own) : Type 0 where

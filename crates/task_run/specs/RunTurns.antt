@@ -6,7 +6,7 @@ use Rattle.types.specs.Code.{Code, Do, If, While, Split, Parts, Begun, Call, Asy
 use Rattle.types.specs.Code.{Then, Program}
 use Rattle.types.specs.Contents.{IsThere}
 use Rattle.types.specs.Run.{State, counted}
-use Rattle.types.specs.Translation.{environment, program}
+use Rattle.types.specs.Translation.{codes, environment, program}
 use Rattle.effects.specs.Needs.{Needs}
 use Rattle.effects.specs.Statements.{HasStatement}
 use Rattle.statement_steps.specs.Primitive.{CanStore}
@@ -56,6 +56,22 @@ DoneAs actions over Gone = (over ≡ false) × IsLittle actions
 DoneAs actions over (Spawned s) = BeginsAs actions over s.value
 DoneAs actions over Entered = (over ≡ false) × (actions ≡ EnterFinish ∷ [])
 DoneAs actions over Exceeded = over ≡ true
+
+-- a spawned task has the label and the body of an async
+abbrev pub DoneSpawns : (IsAsync : ℕ → Codes → Type 0) → Done → Type 0
+DoneSpawns IsAsync Gone = ⊤
+DoneSpawns IsAsync (Spawned s) = IsAsync s.value.label (codes s.value.body.now)
+DoneSpawns IsAsync Entered = ⊤
+DoneSpawns IsAsync Exceeded = ⊤
+
+-- no task was spawned
+abbrev pub SpawnsNone : Done → Type 0
+SpawnsNone = DoneSpawns (λ l b. ⊥)
+
+-- the same of a step
+abbrev pub StepSpawns : (IsAsync : ℕ → Codes → Type 0) → rStep → Type 0
+StepSpawns IsAsync (rDid done) = DoneSpawns IsAsync done
+StepSpawns IsAsync rAtEnd = ⊤
 
 -- this was done, and the new run represents the changed task
 pub record Did (go : Going_on) (actions : State Own → List Action) (over : State Own → Bool)

@@ -5,9 +5,10 @@ use Rattle.types.specs.Outcome.{Budget}
 use Rattle.effects.specs.Rounds.{needs_of}
 use Rattle.task_run.specs.Results.{TaskResult, Settled}
 use Rattle.task_run.specs.OwnRun.{Start, Own, result_of}
-use Rattle.task_run.specs.Given.{own, comes_to, below, IsOwn, root_of}
+use Rattle.task_run.specs.Given.{own, comes_to, below, root_of}
+use Rattle.task_run.specs.InPlace.{IsMade}
 use Rattle.task_run.specs.Frames.{Standing}
-use Rattle.task_run.specs.Reached.{Reached, IsResult, CanSettle, CanEnd}
+use Rattle.task_run.specs.Reached.{Reached, IsResult, IsWholeOrEnded, CanSettle, CanEnd}
 
 module _ (p : Program) (input : List (List ℤ)) (b : Budget) where
   -- the root's start
@@ -26,9 +27,9 @@ module _ (p : Program) (input : List (List ℤ)) (b : Budget) where
   abbrev pub all_results : List TaskResult
   all_results = below p (needs_of p) b.steps b.nest root
 
-  -- a result is the result of the own run of its path's task
-  abbrev pub IsOwnResult : TaskResult → Type 0
-  IsOwnResult = IsOwn p (needs_of p) b.steps root
+  -- a result is made from the start of its path's task, by its own run or whole
+  abbrev pub IsMadeResult : TaskResult → Type 0
+  IsMadeResult = IsMade p (needs_of p) b.steps root
 
   -- a task with this start can reach this configuration
   abbrev pub MayStand : Start → Standing Own → Type 0
@@ -37,6 +38,10 @@ module _ (p : Program) (input : List (List ℤ)) (b : Budget) where
   -- the result of a task that has ended
   abbrev pub IsTaskResult : TaskResult → Type 0
   IsTaskResult = IsResult p (needs_of p) b.steps root
+
+  -- the result of a task that has ended on its own, or that ran whole
+  abbrev pub IsMadeByTask : TaskResult → Type 0
+  IsMadeByTask = IsWholeOrEnded p (needs_of p) b.steps root
 
   -- results of own runs settle what a task has made so far
   abbrev pub MayGoOn : Standing Own → Type 0

@@ -16,7 +16,8 @@ ghost use Rattle.statement_steps.specs.declared.flow.Flow.TheVariants.{On as Flo
 ghost use Rattle.task_run.specs.Apart.{is_stopped as stops_all};
 ghost use Rattle.task_run.specs.Frames.{Frame as Left, handed};
 ghost use Rattle.task_run.specs.OwnRun.{Own, result_of};
-ghost use Rattle.task_run.specs.RunTurns.{ComesBack, Waits, WaitsAs, turn_of};
+ghost use Rattle.task_run.specs.RunTurns.{ComesBack, DoneSpawns, SpawnsNone, StepSpawns, Waits, WaitsAs};
+ghost use Rattle.task_run.specs.RunTurns.{turn_of};
 ghost use Rattle.task_run.specs.Standings.{IsAt, IsEnd, Shows, further, state_of, with_own};
 ghost use Rattle.task_run.specs.Translation.{settled as settled_of, task_result};
 ghost use Rattle.task_run.specs.declared.turn.Turn.TheVariants.{EndsFinish};
@@ -66,6 +67,7 @@ impl<'p> Run<'p> {
         requires next { (r : AnyRun) → GoesOn (N.needs needed.now) self.old r
             → NextIsOf (program_of self.old.plan.program.now) r }
         ensures step { IfOk result (λ s. StepsUpTo (N.needs needed.entry.now) self.old s self.new) }
+        ensures label { IfOk result (StepSpawns (N.IsAsync needed.entry.now)) }
         ensures refused { IfErr result (λ e. e ≡ OutOfMemory) }
     {
         'turns: loop {
@@ -105,6 +107,7 @@ impl<'p> Run<'p> {
     ) -> Result<Step<'p>, HoldError>
         requires { CanTurn (N.needs needed.now) (N.IsAsync needed.now) self.old }
         ensures step { IfOk result (λ s. IsStep (N.needs needed.entry.now) self.old s self.new) }
+        ensures label { IfOk result (StepSpawns (N.IsAsync needed.entry.now)) }
         ensures refused { IfErr result (λ e. e ≡ OutOfMemory) }
     {
         match self.frames.last_mut() {
@@ -166,6 +169,7 @@ impl<'p> Run<'p> {
             (code_of stmt.now.kind) self.old }
         ensures did { IfOk result (λ d. DidNext (N.needs needed.now) below_top
             stmt.entry.now.label (code_of stmt.entry.now.kind) self.old d self.new) }
+        ensures label { IfOk result (DoneSpawns (N.IsAsync needed.now)) }
         ensures refused { IfErr result (λ e. e ≡ OutOfMemory) }
     {
         if self.thread.flow != Flow::On {
@@ -186,8 +190,9 @@ impl<'p> Run<'p> {
         guard: &'p Truth,
         body: &'p [Stmt],
     ) -> Result<Done<'p>, AllocError>
-        ensures { IfOk result (λ d. (needs : Codes → Needs) → DidNext needs (λ fs. fs) label
+        ensures did { IfOk result (λ d. (needs : Codes → Needs) → DidNext needs (λ fs. fs) label
             (While (truth_of guard.entry.now) (codes_of body.entry.now)) self.old d self.new) }
+        ensures none { IfOk result SpawnsNone }
     {
         if self.thread.flow != Flow::On {
             return Ok(Done::Gone);
@@ -203,8 +208,9 @@ impl<'p> Run<'p> {
 
     /// Starts the next turn of a `parts`, if one is left, the flow is on and a step is left.
     fn next_turn(&mut self, turns: TurnsToCome<'p>) -> Result<Done<'p>, AllocError>
-        ensures { IfOk result (λ d. (needs : Codes → Needs)
+        ensures did { IfOk result (λ d. (needs : Codes → Needs)
             → DidTurn needs (further turns.entry) self.old d self.new) }
+        ensures none { IfOk result SpawnsNone }
     {
         match self.thread.flow {
             Flow::Faulted | Flow::Stopped => Ok(Done::Gone),
@@ -221,8 +227,9 @@ impl<'p> Run<'p> {
         requires few { turns.next < 4194304 }
         requires piece { piece_of ((environment_of self.old.thread.environment).windows turns.section.number)
             turns.size turns.next ≡ Some (window_of piece) }
-        ensures { IfOk result (λ d. (needs : Codes → Needs)
+        ensures did { IfOk result (λ d. (needs : Codes → Needs)
             → DidTurn needs (further turns.entry) self.old d self.new) }
+        ensures none { IfOk result SpawnsNone }
     {
         if self.thread.takes_step() {
             self.enter_turn(turns, piece)?;
@@ -245,6 +252,7 @@ impl<'p> Run<'p> {
             (code_of stmt.now.kind) self.old }
         ensures did { IfOk result (λ d. DidAct (N.needs needed.now)
             stmt.entry.now.label (code_of stmt.entry.now.kind) self.old d self.new) }
+        ensures label { IfOk result (DoneSpawns (N.IsAsync needed.now)) }
         ensures refused { IfErr result (λ e. e ≡ OutOfMemory) }
     {
         let label = stmt.label;
@@ -314,6 +322,7 @@ impl<'p> Run<'p> {
             (Async (codes_of body.now)) self.old }
         ensures did { IfOk result (λ d. DidAct (N.needs needed.now) label
             (Async (codes_of body.entry.now)) self.old d self.new) }
+        ensures label { IfOk result (DoneSpawns (N.IsAsync needed.now)) }
         ensures refused { IfErr result (λ e. e ≡ OutOfMemory) }
     {
         if self.thread.nest == 0 {
@@ -325,7 +334,7 @@ impl<'p> Run<'p> {
         let windows = environment.windows_of(alloc, needed.writes(label, body))?;
         let store = &mut self.thread.store;
         let holdings = store.part_for(alloc, environment, &windows, needed.reads(label, body))?;
-        let start = self.start(body, holdings, rooms)?;
+        let start = self.start(label, body, holdings, rooms)?;
         let start = rooms.boxed(start)?;
         let number = ChildNumber::after(self.thread.spawned);
         let listed = Listed {
@@ -477,7 +486,7 @@ fn turned<'p>(run: Run<'p>, done: Done<'p>) -> Turn<'p>
 }
 
 /// Returns whether the flow is stopped.
-fn is_stopped(flow: Flow) -> bool
+pub(crate) fn is_stopped(flow: Flow) -> bool
     ensures { result ≡ stops_all (flow_of flow) }
 {
     match flow {

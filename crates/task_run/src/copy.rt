@@ -56,7 +56,8 @@ impl<'p> Paused<'p> {
 impl<'p> Start<'p> {
     /// Returns an equal start.
     pub fn clone(&self, alloc: Global) -> Result<Start<'p>, AllocError>
-        ensures { IfOk result (λ s. start_of s ≡ start_of self.now) }
+        ensures start { IfOk result (λ s. start_of s ≡ start_of self.now) }
+        ensures label { IfOk result (λ s. s.label ≡ self.now.label) }
     {
         Ok(Start {
             body: self.body,
@@ -64,6 +65,7 @@ impl<'p> Start<'p> {
             holdings: self.holdings.clone(alloc)?,
             nest: self.nest,
             path: self.path.copied(alloc)?,
+            label: self.label,
         })
     }
 }

@@ -1,16 +1,17 @@
 //! Theorems about the definitions, each the contract of an empty function.
 
 ghost use Rattle.std.specs.Prelude.{◌≡◌, ◌+◌, ◌<◌, ◌||◌, ℕ, ℤ, List, [], ◌∷◌, ◌++◌, Option, Some, true};
-ghost use Rattle.std.specs.Prelude.{false, length};
+ghost use Rattle.std.specs.Prelude.{Bool, false, length};
 ghost use Rattle.types.specs.Code.{Truth, Code, While, Async, Codes, Then, Program};
 ghost use Rattle.types.specs.Contents.{FitsArrays};
 ghost use Rattle.types.specs.Outcome.{Budget, outcome};
-ghost use Rattle.types.specs.Run.{State};
+ghost use Rattle.types.specs.Run.{State, Block};
 ghost use Rattle.types.specs.Translation.{program as program_of};
 ghost use Rattle.effects.specs.Sound.{IsSound};
 ghost use Rattle.effects.specs.Needs.{Needs, Provides};
 ghost use Rattle.effects.specs.Rounds.{needs_of};
 ghost use Rattle.effects.specs.Statements.{HasStatement};
+ghost use Rattle.plain_code.specs.Plain.{IsPlainWork};
 ghost use Rattle.race_checker.specs.Clash.{IsAccepted};
 ghost use Rattle.race_checker.specs.Scope.{IsScoped};
 ghost use Rattle.race_checker.specs.Calm.{IsCalm};
@@ -20,13 +21,15 @@ ghost use Rattle.task_run.specs.OwnRun.{Start, Own, at_first, beginning, result_
 ghost use Rattle.task_run.specs.OwnRun.{last_action, Action, EndFinish, is_waiting, run_by};
 ghost use Rattle.task_run.specs.Given.{own, given, in_truth, comes_to, below, IsOwn, root_of};
 ghost use Rattle.task_run.specs.Given.{IsOfOwnRun, told_of};
+ghost use Rattle.task_run.specs.InPlace.{in_place, result_in_place, IsKeptWhole, whole};
+ghost use Rattle.task_run.specs.InPlace.{IsMadeFrom, IsMade, made_of, made_below};
 ghost use Rattle.task_run.specs.Frames.{Frame, Rest, Again, AtEnd, Standing, turn, handed, HasBegun};
 ghost use Rattle.task_run.specs.Frames.{HasBegunBelow, IsGivenChild, IsTask, Follows, done_in};
 ghost use Rattle.task_run.specs.Holds.{MayBegin, Holds, HasOwn, HasNeeds};
 ghost use Rattle.task_run.specs.Stops.{stops, some_stopped};
 ghost use Rattle.task_run.specs.Reached.{HasNext, begun};
-ghost use Rattle.task_run.specs.Runs.{root, root_result, root_comes_to, all_results, IsOwnResult};
-ghost use Rattle.task_run.specs.Runs.{MayStand, IsTaskResult, MayGoOn, MayEnd};
+ghost use Rattle.task_run.specs.Runs.{root, root_result, root_comes_to, all_results, IsMadeResult};
+ghost use Rattle.task_run.specs.Runs.{MayStand, IsTaskResult, IsMadeByTask, MayGoOn, MayEnd};
 ghost use Rattle.task_run.specs.Settling.{settle, IsParted};
 ghost use Rattle.task_run.specs.Left.{left_after, left_of, left_of_paused, left_of_start};
 ghost use Rattle.task_run.specs.Lists.{Each, Shuffled};
@@ -40,17 +43,17 @@ ghost use Rattle.task_run.specs.declared.run.Run.{Run};
 ghost use Rattle.task_run.specs.declared.turn.Paused.{Paused};
 ghost use Rattle.task_run.specs.declared.turn.Turn.{Turn};
 
-/// For a sound and accepted program, tasks apart have the one-thread outcome. If results of own
-/// runs settle, in any order, their outcome is the one-thread outcome too. If the input fits, the
-/// results of all tasks, each once and in any order, do settle. They settle to the settled result
-/// of the root, which also gives the one-thread outcome.
+/// For a sound and accepted program, tasks apart have the one-thread outcome. If results of tasks
+/// settle, in any order, their outcome is the one-thread outcome too, whether a task has run on its
+/// own or whole. If the input fits, the results of all own runs, each once and in any order, do
+/// settle. They settle to the settled result of the root, which also gives the one-thread outcome.
 pub fn accepted_programs_come_to_one_outcome()
     ensures apart { (p : Program) → IsSound p → IsAccepted p
         → (input : List (List ℤ)) (b : Budget)
         → apart_outcome p (needs_of p) input b ≡ outcome p input b }
     ensures told { (p : Program) → IsSound p → IsAccepted p
         → (input : List (List ℤ)) (b : Budget) (rs : List TaskResult) (s : Settled)
-        → Each (IsOwnResult p input b) rs → settle (root_result p input b) rs ≡ Some s
+        → Each (IsMadeResult p input b) rs → settle (root_result p input b) rs ≡ Some s
         → told_of p s ≡ outcome p input b }
     ensures settles { (p : Program) → IsSound p → IsAccepted p
         → (input : List (List ℤ)) (b : Budget) → FitsArrays p.arrays input
@@ -64,7 +67,8 @@ pub fn accepted_programs_come_to_one_outcome()
 /// No task of a sound and accepted program ever misses a place. In each configuration that a task
 /// can reach, the next statement has all that it touches, an async has all that its body needs, and
 /// no place comes back that is already owned. At its end the result of the task is that of its own
-/// run. If results of any tasks settle the root's result, their outcome is the one-thread outcome.
+/// run. If results of any tasks, ended or run whole, settle the root's result, their outcome is the
+/// one-thread outcome.
 pub fn tasks_of_accepted_programs_miss_no_place()
     ensures next { (p : Program) → IsSound p → IsAccepted p
         → (input : List (List ℤ)) (b : Budget) → FitsArrays p.arrays input
@@ -82,7 +86,7 @@ pub fn tasks_of_accepted_programs_miss_no_place()
         → (input : List (List ℤ)) (b : Budget) → FitsArrays p.arrays input
         → (st : State Own)
         → MayStand p input b (root p input b) (record { frames = []; state = st })
-        → (rs : List TaskResult) (s : Settled) → Each (IsTaskResult p input b) rs
+        → (rs : List TaskResult) (s : Settled) → Each (IsMadeByTask p input b) rs
         → settle (result_of st) rs ≡ Some s → told_of p s ≡ outcome p input b }
 {}
 
@@ -121,8 +125,8 @@ pub fn results_add_up()
 {}
 
 /// A task that may start has a settled result, if the results of all tasks below it are there, each
-/// once and in any order. Results of own runs settle the result of a given task only to this
-/// settled result, and only if they are exactly the results of all tasks below it.
+/// once and in any order. Results of tasks settle the result of a given task only to this settled
+/// result. Results of own runs settle it only if they are exactly those of all tasks below it.
 pub fn results_settle()
     ensures complete { (p : Program) (needs : Codes → Needs) (fresh : ℕ) (root s : Start)
         → IsScoped p → IsCalm p → Provides p needs
@@ -130,9 +134,10 @@ pub fn results_settle()
         → (rs : List TaskResult) → Shuffled (below p needs fresh s.nest s) rs
         → settle (result_of (own p needs fresh s)) rs ≡ Some (comes_to p needs fresh s) }
     ensures sound { (p : Program) (needs : Codes → Needs) (fresh : ℕ) (root s : Start)
-        → (rs : List TaskResult) (x : Settled) → given p needs fresh root s.path ≡ Some s
-        → Each (IsOwn p needs fresh root) rs
-        → settle (result_of (own p needs fresh s)) rs ≡ Some x → x ≡ comes_to p needs fresh s }
+        → (r : TaskResult) (rs : List TaskResult) (x : Settled)
+        → given p needs fresh root s.path ≡ Some s
+        → IsMadeFrom p needs fresh s r → Each (IsMade p needs fresh root) rs
+        → settle r rs ≡ Some x → x ≡ comes_to p needs fresh s }
     ensures exact { (p : Program) (needs : Codes → Needs) (fresh : ℕ) (root s : Start)
         → (rs : List TaskResult) (x : Settled) → given p needs fresh root s.path ≡ Some s
         → Each (IsOwn p needs fresh root) rs
@@ -141,7 +146,7 @@ pub fn results_settle()
 {}
 
 /// From its start to its end, turn by turn, a task is its own run. Each child that it lists has the
-/// start that is given to the child's path. With results of own runs the task continues after a
+/// start that is given to the child's path. With results of tasks the task continues after a
 /// finish. Its result is that of its own run.
 pub fn tasks_are_own_runs()
     ensures begins { (p : Program) (needs : Codes → Needs) (fresh : ℕ) (root s : Start)
@@ -158,7 +163,7 @@ pub fn tasks_are_own_runs()
         → IsTask p needs fresh root s (record { frames = fs; state = st })
         → Each (IsGivenChild p needs fresh root) st.extra.pending }
     ensures leaves { (p : Program) (needs : Codes → Needs) (fresh : ℕ) (root s : Start)
-        → (rs : List TaskResult) → Each (IsOwn p needs fresh root) rs
+        → (rs : List TaskResult) → Each (IsMade p needs fresh root) rs
         → (before : State Own) (fs : List (Frame Own)) (st : State Own)
         → IsTask p needs fresh root s (record { frames = AtEnd before ∷ fs; state = st })
         → (x : Settled) → settle (result_of st) rs ≡ Some x
@@ -249,7 +254,7 @@ pub fn tasks_have_what_they_touch()
         → Holds p needs (turn p (own_rules needs s.nest (in_truth p needs fresh)) f fs st) }
     ensures leaves { (p : Program) (needs : Codes → Needs) (fresh : ℕ) (root s : Start)
         → IsScoped p → IsCalm p → Provides p needs
-        → (rs : List TaskResult) → Each (IsOwn p needs fresh root) rs
+        → (rs : List TaskResult) → Each (IsMade p needs fresh root) rs
         → (before : State Own) (fs : List (Frame Own)) (st : State Own)
         → IsTask p needs fresh root s (record { frames = AtEnd before ∷ fs; state = st })
         → Holds p needs (record { frames = AtEnd before ∷ fs; state = st })
@@ -310,11 +315,38 @@ pub fn runs_stay_tasks()
     ensures behind { (p : Program) → IsSound p → IsAccepted p
         → (input : List (List ℤ)) (b : Budget) → FitsArrays p.arrays input
         → (q : Paused) (so_far : Made) (w : MayWait p input b q so_far)
-        → (rs : List TaskResult) → Each (IsTaskResult p input b) rs
+        → (rs : List TaskResult) → Each (IsMadeByTask p input b) rs
         → (x : Settled) → settle (task_result so_far) rs ≡ Some x
         → (r : Run) → r.plan ≡ q.plan → r.thread.nest ≡ q.nest
         → IsAt r (record { frames = w.frames; state = handed w.before x w.state })
         → IsRunOf p input b w.start r }
+{}
+
+/// One thread that runs a task and all tasks below it in place makes all that the task's start
+/// comes to, unless it is stopped. If the body is plain, it makes the result of the task's own run,
+/// stopped or not. In both cases what it makes is the result of a task. Whichever tasks run whole,
+/// the result of a task settles if those of all tasks below it are there, each once and in any
+/// order. A task that runs whole has none below it.
+pub fn tasks_may_run_whole()
+    ensures whole { (p : Program) → IsSound p → IsAccepted p
+        → (input : List (List ℤ)) (b : Budget) → FitsArrays p.arrays input
+        → (s : Start) → MayStart p input b s
+        → is_stopped (in_place p b.steps s).flow ≡ false
+        → result_in_place p b.steps s ≡ whole p (needs_of p) b.steps s }
+    ensures plain { (p : Program) (needs : Codes → Needs) (fresh : ℕ) (s : Start)
+        → IsPlainWork p (Block s.body)
+        → result_in_place p fresh s ≡ result_of (own p needs fresh s) }
+    ensures made { (p : Program) → IsSound p → IsAccepted p
+        → (input : List (List ℤ)) (b : Budget) → FitsArrays p.arrays input
+        → (s : Start) → MayStart p input b s → IsKeptWhole p b.steps s
+        → IsMadeByTask p input b (result_in_place p b.steps s) }
+    ensures settles { (p : Program) → IsSound p → IsAccepted p
+        → (input : List (List ℤ)) (b : Budget) → FitsArrays p.arrays input
+        → (s : Start) → MayStart p input b s
+        → (runs_whole : Start → Bool) (rs : List TaskResult)
+        → Shuffled (made_below p (needs_of p) b.steps runs_whole s.nest s) rs
+        → settle (made_of p (needs_of p) b.steps runs_whole s) rs
+        ≡ Some (comes_to p (needs_of p) b.steps s) }
 {}
 
 /// Runs end: a turn decreases the bound of the number of turns that are left, including those of a

@@ -15,3 +15,4 @@ pub mod rooms;
 pub mod run;
 pub mod start;
 pub mod turn;
+pub mod whole;

@@ -58,7 +58,7 @@ impl<'p> Rooms<'p> {
     }
 
     /// Puts the start of a task into a box.
-    pub(crate) fn boxed(&mut self, start: Start<'p>) -> Result<Box<Start<'p>>, AllocError>
+    pub fn boxed(&mut self, start: Start<'p>) -> Result<Box<Start<'p>>, AllocError>
         ensures { IfOk result (λ b. b.value ≡ start.entry) }
     {
         match self.starts.pop() {
@@ -121,6 +121,7 @@ fn nothing<'p>(alloc: Global) -> Start<'p> {
         holdings: Holdings::none(alloc),
         nest: 0,
         path: Path::root(alloc),
+        label: 0,
     }
 }
 

@@ -27,7 +27,7 @@ use statement_steps::thread::{Plan, Thread};
 use statement_steps::turns::TurnsToCome;
 use std::alloc::AllocError;
 use types::child_number::ChildNumber;
-use types::code::Stmt;
+use types::code::{Label, Stmt};
 use types::fault::Fault;
 use types::ids::Slot;
 use types::value::Environment;
@@ -178,16 +178,20 @@ impl<'p> Run<'p> {
         Ok(())
     }
 
-    /// Returns the start of the next child, with these holdings.
+    /// Returns the start of the next child, the body of the async with this label, with these
+    /// holdings.
     pub(crate) fn start(
         &self,
+        label: Label,
         body: &'p [Stmt],
         holdings: Holdings,
         rooms: &mut Rooms<'p>,
     ) -> Result<Start<'p>, AllocError>
         requires few { self.now.thread.spawned < 1000000000 }
         requires nest { 0 < self.now.thread.nest }
-        ensures { IfOk result (λ s. start_of s ≡ record {
+        ensures label { IfOk result (λ s. s.label ≡ label) }
+        ensures body { IfOk result (λ s. codes_of s.body.now ≡ codes_of body.entry.now) }
+        ensures start { IfOk result (λ s. start_of s ≡ record {
           body = codes_of body.entry.now;
           environment = environment_of self.now.thread.environment;
           contents = contents_of holdings;
@@ -205,6 +209,7 @@ impl<'p> Run<'p> {
             holdings,
             nest: self.thread.nest - 1,
             path,
+            label,
         })
     }
 

@@ -10,7 +10,7 @@ ghost use Rattle.task_run.specs.Translation.{start as start_of};
 use holdings::holdings::Holdings;
 use statement_steps::thread::{Plan, main_environment};
 use std::alloc::AllocError;
-use types::code::Stmt;
+use types::code::{Label, Stmt};
 use types::input::Input;
 use types::path::Path;
 use types::typed::Typed;
@@ -26,6 +26,8 @@ pub struct Start<'p> {
     /// How many levels deep asyncs may be nested in it.
     pub nest: u32,
     pub path: Path,
+    /// The label of the async whose body it is. The root has 0, which no statement has.
+    pub label: Label,
 }
 
 impl<'p> Start<'p> {
@@ -44,6 +46,7 @@ impl<'p> Start<'p> {
             holdings,
             nest: plan.budget.nest,
             path: Path::root(plan.alloc),
+            label: 0,
         })
     }
 }

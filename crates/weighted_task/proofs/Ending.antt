@@ -10,6 +10,7 @@ use Rattle.task_run.specs.Given.{given, told_of}
 use Rattle.task_run.specs.MayRun.{IsEndOf}
 use Rattle.task_run.specs.OwnRun.{Own, Start}
 use Rattle.task_run.specs.Results.{TaskResult}
+use Rattle.task_run.specs.Reached.{has_ended}
 use Rattle.task_run.specs.Runs.{root, MayStand}
 use Rattle.task_run.specs.RunTurns.{ComesBack, IsTurn, Waits}
 use Rattle.task_run.specs.Settling.{settle}
@@ -46,7 +47,7 @@ module _ (j : Job) (outer : List Stake) (n : ℕ) (old : Run) (g : GoesBy j oute
 
   -- a task that has finished has made its result
   pub is_result : IsResultOf j made
-  is_result = record { start = g.may.start; state = ended.0; ended = ended.1; is = ended.2 }
+  is_result = has_ended (record { start = g.may.start; state = ended.0; ended = ended.1; is = ended.2 })
 
   -- the one that finishes with the empty path is the root
   pub root_ends : made.path.turns.items ≡ [] → EndsMain j made

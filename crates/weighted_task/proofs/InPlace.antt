@@ -5,7 +5,8 @@ use Rattle.types.specs.Code.{Codes}
 use Rattle.effects.specs.Needs.{Needs}
 use Rattle.effects.specs.Rounds.{needs_of}
 use Rattle.task_run.specs.MayRun.{MayStart}
-use Rattle.task_run.specs.RunTurns.{GoesUpTo, IsAtEnd, IsEnding, IsMore, IsStep, IsTurn, StepsUpTo, turn_of}
+use Rattle.task_run.specs.RunTurns.{GoesUpTo, IsAtEnd, IsEnding, IsMore, IsStep, IsTurn, StepSpawns, StepsUpTo}
+use Rattle.task_run.specs.RunTurns.{turn_of}
 use Rattle.task_run.specs.Translation.{start}
 use Rattle.task_run.specs.declared.run.Run.{Run}
 use Rattle.task_run.specs.declared.start.Start.{Start}
@@ -19,7 +20,7 @@ use Rattle.task_run.specs.declared.turn.Turn.TheVariants.{EntersFinish as RunEnt
 use Rattle.task_run.specs.declared.turn.Turn.TheVariants.{EndsFinish as RunEndsFinish}
 use Rattle.task_run.specs.declared.turn.Turn.TheVariants.{Ended as RunEnded, Over as RunOver}
 use Rattle.task_run.specs.Jobs.{program_of, lists_of, budget_of}
-use Rattle.weighted_task.specs.Tasks.{GoesBy, IsBody}
+use Rattle.weighted_task.specs.Tasks.{GoesBy, IsAsyncOf, IsBody}
 use Rattle.weighted_task.specs.Turns.{Becomes, EndsBy, GoesInPlace, HasDone, InPlace, Keeps, Parts, RunsToEnd}
 use Rattle.weighted_task.specs.Turns.{TakesOneTurn, TakesSo, TakesTurn, TurnsInPlace, turning}
 use Rattle.weighted_task.specs.Units.{held}
@@ -124,8 +125,8 @@ module _ (b new : Body) (s : RunStep) (went : GoesInPlace b s new) where
   pub went_units : (u : ℕ) → u + held new.outer.items ≡ u + held b.outer.items
   went_units u = units_stay (λ r after. StepsUpTo (needs_of (program_of b.job)) r s after) b new u went
 
-  pub went_done : (d : Done) → s ≡ Did d → IsBody b → HasDone new d
-  went_done d to is =
+  pub went_done : (d : Done) → s ≡ Did d → IsBody b → StepSpawns (IsAsyncOf b) s → HasDone new d
+  went_done d to is label =
       let far = subst Far to went.takes in
       subst (λ (x : Body). HasDone x d) (sym went.is) (record {
         run = far.last;
@@ -133,6 +134,7 @@ module _ (b new : Body) (s : RunStep) (went : GoesInPlace b s new) where
         after = went.after;
         has = refl;
         turn = far.step;
+        label = subst (StepSpawns (IsAsyncOf b)) to label;
       })
 
   pub went_to_end : s ≡ AtEnd → IsBody b → RunsToEnd new
@@ -150,14 +152,15 @@ module _ (b new : Body) (s : RunStep) (went : TurnsInPlace b s new) where
   pub turned_units : (u : ℕ) → u + held new.outer.items ≡ u + held b.outer.items
   turned_units u = units_stay (λ r after. IsStep (needs_of (program_of b.job)) r s after) b new u went
 
-  pub turned_done : (d : Done) → s ≡ Did d → IsBody b → HasDone new d
-  turned_done d to is =
+  pub turned_done : (d : Done) → s ≡ Did d → IsBody b → StepSpawns (IsAsyncOf b) s → HasDone new d
+  turned_done d to is label =
       subst (λ (x : Body). HasDone x d) (sym went.is) (record {
         run = went.run;
         goes = goes_by is;
         after = went.after;
         has = refl;
         turn = subst One to went.takes;
+        label = subst (StepSpawns (IsAsyncOf b)) to label;
       })
 
   pub turned_to_end : s ≡ AtEnd → IsBody b → RunsToEnd new

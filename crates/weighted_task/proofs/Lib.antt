@@ -3,3 +3,4 @@ pub mod Ending
 pub mod InPlace
 pub mod Staying
 pub mod Turning
+pub mod WholeChildren

@@ -13,7 +13,7 @@ use Rattle.task_run.specs.declared.turn.Turn.TheVariants.{EntersFinish as RunEnt
 use Rattle.task_run.specs.Jobs.{program_of, lists_of, budget_of, IsJob}
 use Rattle.task_run.specs.declared.job.Job.{Job}
 use Rattle.weighted_task.specs.Ends.{IsAtEnd, IsParked}
-use Rattle.weighted_task.specs.Tasks.{GoesBy, IsBody, IsResultOf}
+use Rattle.weighted_task.specs.Tasks.{GoesBy, IsBody, IsOfAsync, IsResultOf}
 use Rattle.weighted_task.specs.Turns.{AreTasks, Becomes, IsEndOf, Opens, Parts}
 use Rattle.weighted_task.specs.Units.{held, units_after}
 use Rattle.weighted_task.specs.declared.finish.Ending.{Ending}
@@ -29,27 +29,33 @@ use Rattle.weighted_task.proofs.Staying.{entering, none_held as none_open}
 
 -- a task that spawned another, and that one
 pub parts_tasks : (b : Body) (u : ℕ) (s : Start) (t : WeightedTurn) → Parts b u s t → IsBody b
-    → MayStart (program_of b.job) (lists_of b.job) (budget_of b.job) (start s) → AreTasks t
-parts_tasks b u s (Spawns t c) h is may = (
+    → MayStart (program_of b.job) (lists_of b.job) (budget_of b.job) (start s) → IsOfAsync (program_of b.job) s → AreTasks t
+parts_tasks b u s (Spawns t c) h is may label = (
   subst IsBody (sym h.body) is,
   record {
     job = subst IsJob (sym h.job) is.goes.job;
     may =
         subst (λ (k : Job). MayStart (program_of k) (lists_of k) (budget_of k) (start c.start.value)) (sym h.job)
         (subst (λ (x : Start). MayStart (program_of b.job) (lists_of b.job) (budget_of b.job) (start x)) (sym h.start) may);
+    label =
+        subst (λ (k : Job). IsOfAsync (program_of k) c.start.value) (sym h.job)
+        (subst (IsOfAsync (program_of b.job)) (sym h.start) label);
   },
 )
-parts_tasks b u s (WantsWeight w) h is may = record {
+parts_tasks b u s (WantsWeight w) h is may label = record {
   body = subst IsBody (sym h.body) is;
   may =
       subst (λ (x : Body). MayStart (program_of x.job) (lists_of x.job) (budget_of x.job) (start w.start.value)) (sym h.body)
       (subst (λ (x : Start). MayStart (program_of b.job) (lists_of b.job) (budget_of b.job) (start x)) (sym h.start) may);
+  label =
+      subst (λ (x : Body). IsOfAsync (program_of x.job) w.start.value) (sym h.body)
+      (subst (IsOfAsync (program_of b.job)) (sym h.start) label);
 }
-parts_tasks b u s (Going t) h is may = absurd h
-parts_tasks b u s (EntersFinish e) h is may = absurd h
-parts_tasks b u s (EndsFinish e) h is may = absurd h
-parts_tasks b u s (Ended r) h is may = absurd h
-parts_tasks b u s (Over t) h is may = absurd h
+parts_tasks b u s (Going t) h is may label = absurd h
+parts_tasks b u s (EntersFinish e) h is may label = absurd h
+parts_tasks b u s (EndsFinish e) h is may label = absurd h
+parts_tasks b u s (Ended r) h is may label = absurd h
+parts_tasks b u s (Over t) h is may label = absurd h
 
 -- a task that started a finish
 pub opens_task : (b : Body) (u : ℕ) (r : Run) (new : Body) → Opens b u r new → (old : Run)

@@ -7,7 +7,7 @@ use Rattle.task_run.specs.Lists.{Each}
 use Rattle.task_run.specs.MayRun.{MayWait}
 use Rattle.task_run.specs.OwnRun.{Own, result_of}
 use Rattle.task_run.specs.Results.{TaskResult}
-use Rattle.task_run.specs.Runs.{root, MayStand, IsTaskResult}
+use Rattle.task_run.specs.Runs.{root, MayStand, IsMadeByTask}
 use Rattle.task_run.specs.RunTurns.{ComesBack, Waits}
 use Rattle.task_run.specs.Settling.{settle}
 use Rattle.task_run.specs.Standings.{IsAt}
@@ -68,7 +68,7 @@ pub record Comes (w : Waiting) (s : Settled) : Type 0 where
   pub made : Made
   pub waits : IsAtEnd w.job w.owner made w.outer.items w.opened
   pub results : List TaskResult
-  pub tasks : Each (IsTaskResult (program_of w.job) (lists_of w.job) (budget_of w.job)) results
+  pub tasks : Each (IsMadeByTask (program_of w.job) (lists_of w.job) (budget_of w.job)) results
   pub settles : Some (settled s) ≡ settle (task_result made) results
   pub owned : (q : Place) → owned_by s.holdings q ≡ all_owned (task_result made) q
 

@@ -1,9 +1,11 @@
 -- Invariants of tasks: they are of their job, with a weight in each scope that they belong to.
 use Rattle.std.specs.Prelude.{ℕ, ◌≡◌, ◌+◌, ◌≤◌, List, length, [], Some}
-use Rattle.types.specs.Translation.{program}
+use Rattle.types.specs.Code.{Async, Codes, Program}
+use Rattle.types.specs.Translation.{codes, program}
+use Rattle.effects.specs.Statements.{HasStatement}
 use Rattle.task_run.specs.MayRun.{MayRun, MayStart}
 use Rattle.task_run.specs.Reached.{begun}
-use Rattle.task_run.specs.Runs.{root, IsTaskResult}
+use Rattle.task_run.specs.Runs.{root, IsMadeByTask}
 use Rattle.task_run.specs.Standings.{IsAt}
 use Rattle.task_run.specs.Translation.{start, task_result}
 use Rattle.task_run.specs.declared.result.TaskResult.{TaskResult as Made}
@@ -36,14 +38,23 @@ pub record IsBody (b : Body) : Type 0 where
 abbrev pub IsTask : Task → Type 0
 IsTask t = IsBody t.body.value
 
+-- a start has the label and the body of an async
+abbrev pub IsOfAsync : Program → Start → Type 0
+IsOfAsync p s = HasStatement p s.label (Async (codes s.body.now))
+
+-- an async of its program has this label and this body
+abbrev pub IsAsyncOf : Body → (label : ℕ) → Codes → Type 0
+IsAsyncOf b l is = HasStatement (program_of b.job) l (Async is)
+
 -- a spawned task is one of its job
 pub record IsChild (c : Child) : Type 0 where
   pub job : IsJob c.job
   pub may : MayStart (program_of c.job) (lists_of c.job) (budget_of c.job) (start c.start.value)
+  pub label : IsOfAsync (program_of c.job) c.start.value
 
--- a result is that of a task of the job
+-- a task of the job has made this result
 abbrev pub IsResultOf : Job → Made → Type 0
-IsResultOf j made = IsTaskResult (program_of j) (lists_of j) (budget_of j) (task_result made)
+IsResultOf j made = IsMadeByTask (program_of j) (lists_of j) (budget_of j) (task_result made)
 
 -- a task before its first turn, in this scope
 pub record IsFirst (j : Job) (r : Run) (at : ScopeMark) (b : Body) : Type 0 where

@@ -2,7 +2,8 @@
 use Rattle.std.specs.Prelude.{ℕ, ◌≡◌, ◌≢◌, ◌+◌, ◌/◌, ◌≤◌, [], ◌∷◌, ◌++◌, length, Some, None}
 use Rattle.effects.specs.Rounds.{needs_of}
 use Rattle.task_run.specs.MayRun.{MayStart}
-use Rattle.task_run.specs.RunTurns.{GoesUpTo, IsEnding, IsStep, IsTurn, StepsUpTo, turn_of}
+use Rattle.task_run.specs.RunTurns.{DoneSpawns, GoesUpTo, IsEnding, IsStep, IsTurn, StepsUpTo}
+use Rattle.task_run.specs.RunTurns.{turn_of}
 use Rattle.task_run.specs.RunTurns.{IsAtEnd as IsRunAtEnd}
 use Rattle.task_run.specs.Translation.{start}
 use Rattle.task_run.specs.declared.result.TaskResult.{TaskResult as Made}
@@ -17,7 +18,7 @@ use Rattle.task_run.specs.declared.turn.Turn.TheVariants.{EndsFinish as RunEndsF
 use Rattle.task_run.specs.declared.turn.Turn.TheVariants.{Ended as RunEnded, Over as RunOver}
 use Rattle.task_run.specs.Jobs.{program_of, lists_of, budget_of, IsJob}
 use Rattle.weighted_task.specs.Ends.{IsParked}
-use Rattle.weighted_task.specs.Tasks.{GoesBy, IsBody, IsTask, IsChild, IsResultOf}
+use Rattle.weighted_task.specs.Tasks.{GoesBy, IsAsyncOf, IsBody, IsTask, IsChild, IsOfAsync, IsResultOf}
 use Rattle.weighted_task.specs.declared.finish.Ending.{Ending}
 use Rattle.weighted_task.specs.declared.finish.Owner.{Owner}
 use Rattle.weighted_task.specs.declared.finish.Owner.TheVariants.{Main, Finish}
@@ -27,6 +28,8 @@ use Rattle.weighted_task.specs.declared.task.Child.{Child}
 use Rattle.weighted_task.specs.declared.task.Task.{Task}
 use Rattle.weighted_task.specs.declared.turn.WeightedResult.{WeightedResult}
 use Rattle.weighted_task.specs.declared.turn.WeightedTurn.{WeightedTurn}
+use Rattle.weighted_task.specs.declared.turn.WholeChild.{WholeChild}
+use Rattle.weighted_task.specs.declared.turn.WholeChild.TheVariants.{Made as ChildMade, Cut, Again}
 use Rattle.weighted_task.specs.declared.turn.WeightedTurn.TheVariants.{Going, Spawns, WantsWeight, EntersFinish}
 use Rattle.weighted_task.specs.declared.turn.WeightedTurn.TheVariants.{EndsFinish, Ended, Over}
 use Rattle.weighted_task.specs.declared.turn.Wanting.{Wanting}
@@ -131,6 +134,7 @@ pub record HasDone (b : Body) (d : Done) : Type 0 where
   pub after : Run
   pub has : b.run ≡ Some after
   pub turn : IsTurn (needs_of (program_of b.job)) run (turn_of after d)
+  pub label : DoneSpawns (IsAsyncOf b) d
 
 -- it is at the end of a finish, or has finished
 pub record RunsToEnd (b : Body) : Type 0 where
@@ -168,6 +172,7 @@ TakesOneTurn old new = TakesSo (IsTurn (needs_of (program_of old.body.value.job)
 pub record IsWanting (b : Body) (s : Start) : Type 0 where
   pub body : IsBody b
   pub may : MayStart (program_of b.job) (lists_of b.job) (budget_of b.job) (start s)
+  pub label : IsOfAsync (program_of b.job) s
 
 -- the results of a turn are of the job's tasks
 abbrev pub AreTasks : WeightedTurn → Type 0
@@ -178,3 +183,25 @@ AreTasks (EntersFinish e) = IsBody e.body.value
 AreTasks (EndsFinish e) = IsParked e.parked.value
 AreTasks (Ended r) = IsJob r.job × IsResultOf r.job r.made
 AreTasks (Over t) = IsTask t
+
+-- the result of a spawned task that ran whole, with all its weight
+pub record HasMade (c : Child) (r : WeightedResult) : Type 0 where
+  pub job : r.job ≡ c.job
+  pub scope : r.scope ≡ c.scope
+  pub weight : r.share.weight ≡ c.share.weight
+  pub path : r.made.path.turns.items ≡ c.start.value.path.turns.items
+  pub result : IsResultOf c.job r.made
+
+-- it is as it was
+pub record IsSameChild (c d : Child) : Type 0 where
+  pub job : d.job ≡ c.job
+  pub scope : d.scope ≡ c.scope
+  pub weight : d.share.weight ≡ c.share.weight
+  pub start : start d.start.value ≡ start c.start.value
+  pub child : IsChild d
+
+-- what a whole run of a spawned task comes to
+abbrev pub EndsWhole : Child → WholeChild → Type 0
+EndsWhole c (ChildMade r begun) = HasMade c r
+EndsWhole c (Cut begun) = Unit {0}
+EndsWhole c (Again d) = IsSameChild c d

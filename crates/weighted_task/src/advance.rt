@@ -2,11 +2,11 @@
 
 ghost use Rattle.std.specs.Prelude.{◌≡◌, ◌+◌, ◌<◌, IfOk, Some};
 ghost use Rattle.plain_code.specs.Pieces.{IsCodeOfProgram};
-ghost use Rattle.task_run.specs.RunTurns.{turn_of};
+ghost use Rattle.task_run.specs.RunTurns.{StepSpawns, turn_of};
 ghost use Rattle.task_run.specs.declared.run.Run.{Run as AnyRun};
 ghost use Rattle.task_run.specs.declared.turn.Turn.TheVariants.{Ended};
 ghost use Rattle.task_run.specs.Jobs.{program_of};
-ghost use Rattle.weighted_task.specs.Tasks.{IsBody, IsTask};
+ghost use Rattle.weighted_task.specs.Tasks.{IsAsyncOf, IsBody, IsTask};
 ghost use Rattle.weighted_task.specs.Turns.{AreTasks, Becomes, EndsBy, GoesInPlace, HasDone, IsEndOf, Opens};
 ghost use Rattle.weighted_task.specs.Turns.{Parts, RunsToEnd, TakesOneTurn, TakesTurn, TurnsInPlace, turning};
 ghost use Rattle.weighted_task.specs.Units.{held, units_after, units_of};
@@ -64,7 +64,8 @@ impl<'p> Body<'p> {
     fn go(&mut self, code: &ProgramCode<'p>, rooms: &mut Rooms<'p>) -> Result<Step<'p>, AllocError>
         requires body { IsBody self.old }
         requires code { IsCodeOfProgram (program_of self.old.job) code.now }
-        ensures { IfOk result (λ s. GoesInPlace self.old s self.new) }
+        ensures goes { IfOk result (λ s. GoesInPlace self.old s self.new) }
+        ensures label { IfOk result (StepSpawns (IsAsyncOf self.old)) }
     {
         let accepted = self.job.accepted;
         let Some(run) = &mut self.run else {
@@ -79,7 +80,8 @@ impl<'p> Body<'p> {
     /// Takes one turn of its run in place.
     fn advance(&mut self, rooms: &mut Rooms<'p>) -> Result<Step<'p>, AllocError>
         requires { IsBody self.old }
-        ensures { IfOk result (λ s. TurnsInPlace self.old s self.new) }
+        ensures turn { IfOk result (λ s. TurnsInPlace self.old s self.new) }
+        ensures label { IfOk result (StepSpawns (IsAsyncOf self.old)) }
     {
         let accepted = self.job.accepted;
         let Some(run) = &mut self.run else {

@@ -1,15 +1,21 @@
 //! Tasks, and the children that they spawn.
 
 ghost use Rattle.std.specs.Prelude.{◌≡◌, IfErr, IfOk, IfSome, OnOk};
-ghost use Rattle.task_run.specs.Jobs.{IsJob};
+ghost use Rattle.plain_code.specs.Pieces.{IsCodeOfProgram};
+ghost use Rattle.task_run.specs.Jobs.{IsJob, program_of};
 ghost use Rattle.weighted_task.specs.Tasks.{IsBegun, IsChild, IsRoot, IsRootBody, IsTask, StartsAs};
+ghost use Rattle.weighted_task.specs.Turns.{EndsWhole};
 
 use crate::rooms::TaskRooms;
 use crate::stake::{ScopeMark, Share, Stake};
+use crate::turn::{WeightedResult, WholeChild};
+use plain_code::pieces::ProgramCode;
+use serial_run::passing::Limit;
 use std::alloc::AllocError;
 use task_run::job::Job;
 use task_run::run::Run;
 use task_run::start::Start;
+use task_run::whole::WholeRun;
 use types::path::Path;
 use weights::weight::Weight;
 
@@ -102,6 +108,47 @@ impl<'p> Child<'p> {
         let start = rooms.runs.take_out(start);
         let body = first_body(job, start, scope, rooms)?;
         Ok(Task { body, share })
+    }
+
+    /// Runs the task with all tasks below it in place, if it can.
+    pub fn run_whole<L: Limit>(
+        self,
+        code: &ProgramCode<'p>,
+        limit: &L,
+        rooms: &mut TaskRooms<'p>,
+    ) -> Result<WholeChild<'p>, AllocError>
+        requires child { IsChild self }
+        requires code { IsCodeOfProgram (program_of self.job) code.now }
+        ensures { IfOk result (EndsWhole self.entry) }
+    {
+        let Child {
+            job,
+            start,
+            scope,
+            share,
+        } = self;
+        let start = rooms.runs.take_out(start);
+        match start.run_whole(job.plan(), code, limit, &mut rooms.runs)? {
+            WholeRun::Made(made, begun) => Ok(WholeChild::Made(
+                WeightedResult {
+                    job,
+                    made,
+                    scope,
+                    share,
+                },
+                begun,
+            )),
+            WholeRun::Cut(begun) => Ok(WholeChild::Cut(begun)),
+            WholeRun::Again(start) => {
+                let start = rooms.runs.boxed(start)?;
+                Ok(WholeChild::Again(Child {
+                    job,
+                    start,
+                    scope,
+                    share,
+                }))
+            }
+        }
     }
 }
 

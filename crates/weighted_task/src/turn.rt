@@ -56,6 +56,17 @@ pub struct WeightedResult<'p> {
     pub share: Share,
 }
 
+/// What a whole run of a spawned task comes to.
+#[derive(Drop)]
+pub enum WholeChild<'p> {
+    /// Its result, with all its weight, and the number of asyncs that were begun in place.
+    Made(WeightedResult<'p>, u64),
+    /// The run was cut off after this many asyncs.
+    Cut(u64),
+    /// The task is to run in another way, from its start.
+    Again(Child<'p>),
+}
+
 impl<'p> Wanting<'p> {
     /// Returns its weight, to which the scope adds, and the rest of the task.
     pub fn take_weight(self) -> (Weight, WeightedPaused<'p>)

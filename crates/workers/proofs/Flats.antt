@@ -10,6 +10,7 @@ use Rattle.serial_run.specs.contracts.safe.Limits as Limits
 use Rattle.plain_code.specs.contracts.pieces.ProgramCode as ProgramCode
 use Rattle.serial_run.proofs.code.PrintedNumber.TheSendSync as OfTold
 use Rattle.serial_run.proofs.code.Fused.TheSendSync as OfFused
+use Rattle.plain_code.proofs.pieces.BodyCode.TheSendSync as OfBody
 use Rattle.finish_scope.proofs.Crossing.{code_sync, stmt_sync, truth_sync}
 
 -- A search through all kinds of instructions at once ends at its limit, so each is searched for by itself, in order.
@@ -127,5 +128,8 @@ pub program_code_sync : (κ : NamedLft) → IsSync (ProgramCode.the_row κ)
 program_code_sync κ =
     declared_sync (ProgramCode.the_type κ) (
       search (sendable, crosses, flat_sync) depth 60 fits 50000,
-      (search (sendable, crosses) depth 60 fits 50000, tt),
+      (
+        search (sendable, crosses) depth 60 fits 50000,
+        (search (sendable, crosses, OfBody.the_sync) depth 60 fits 50000, tt),
+      ),
     )

@@ -60,7 +60,7 @@ module _ (κ : NamedLft) (J : RattleType) (gh : Ghosts J.Denot) where
         child_send κ,
         (
           scope_field,
-          (OfPlace.the_send, (search (sendable, crosses) depth 30 fits 5000, (OfStub.the_send, tt))),
+          (OfPlace.the_send, (search (sendable, crosses) depth 30 fits 5000, (OfStub.the_send, (search sendable, tt)))),
         ),
       ))
 

@@ -17,7 +17,7 @@ pub more_own : (o : Option Job) (w : Wanting) (b : Body) (u : ℕ) (s : Start) (
 more_own o w b u s t c own body start parts =
     let d : Divides w.body.value u w.start.value t c =
     subst (λ (x : Start). Divides w.body.value u x t c) start (subst (λ (x : Body). Divides x u s t c) body parts) in
-    let tasks = parts_tasks w.body.value u w.start.value (Spawns t c) d own.wanting.body own.wanting.may in (
+    let tasks = parts_tasks w.body.value u w.start.value (Spawns t c) d own.wanting.body own.wanting.may own.wanting.label in (
       record { job = own.job ∙ ap Some (sym (ap (λ (x : Body). x.job) d.body)); task = tasks.0 },
       record { job = own.job ∙ ap Some (sym d.job); child = tasks.1 },
     )

@@ -4,7 +4,7 @@ use Rattle.types.specs.Translation.{outcome}
 use Rattle.task_run.specs.Lists.{Each}
 use Rattle.plain_code.specs.Pieces.{IsCodeOfProgram}
 use Rattle.plain_code.specs.declared.pieces.ProgramCode.{ProgramCode}
-use Rattle.task_run.specs.declared.result.TaskResult.{TaskResult as Made}
+use Rattle.task_run.specs.declared.result.TaskResult.{TaskResult as RunResult}
 use Rattle.task_run.specs.Jobs.{outcome_of, program_of}
 use Rattle.task_run.specs.declared.job.Job.{Job}
 use Rattle.weighted_task.specs.Ends.{IsParked}
@@ -20,6 +20,8 @@ use Rattle.weighted_task.specs.declared.turn.WeightedTurn.{WeightedTurn}
 use Rattle.weighted_task.specs.declared.turn.WeightedTurn.TheVariants.{Going, Spawns, WantsWeight, EntersFinish}
 use Rattle.weighted_task.specs.declared.turn.WeightedTurn.TheVariants.{EndsFinish, Ended, Over}
 use Rattle.weighted_task.specs.declared.turn.Wanting.{Wanting}
+use Rattle.weighted_task.specs.declared.turn.WholeChild.{WholeChild}
+use Rattle.weighted_task.specs.declared.turn.WholeChild.TheVariants.{Made, Cut, Again}
 use Rattle.weighted_task.specs.Tasks.{IsBody}
 use Rattle.tickets.specs.Seats.{WordId}
 use Rattle.tickets.specs.declared.drawing.Stub.{Stub}
@@ -80,8 +82,14 @@ module _ (o : Option Job) where
   IsOwnTurn (Ended r) = IsOwnEnded r
   IsOwnTurn (Over t) = IsOwnTask t
 
+  -- what a whole run of a spawned task comes to
+  abbrev pub IsOwnWhole : WholeChild → Type 0
+  IsOwnWhole (Made r begun) = IsOwnEnded r
+  IsOwnWhole (Cut begun) = Unit {0}
+  IsOwnWhole (Again c) = IsOwnChild c
+
   -- an owner of it that passes, with the results of its scope
-  pub record IsOwnLeaving (p : Parked) (rs : List Made) : Type 0 where
+  pub record IsOwnLeaving (p : Parked) (rs : List RunResult) : Type 0 where
     pub job : o ≡ Some p.job
     pub ends : IsParked p
     pub results : Each (IsResultOf p.job) rs

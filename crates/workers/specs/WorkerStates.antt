@@ -29,6 +29,10 @@ abbrev pub DrawsForEach : {T : Type 0} → (others : ℕ) → (old new : Seat) �
 DrawsForEach others old new before after =
     length (drawn_of new) + length before ≡ length (drawn_of old) + length after + others
 
+-- and for each async that it began in place
+abbrev pub DrawsForAll : {T : Type 0} → (old new : Seat) → (before after : List T) → Type 0
+DrawsForAll old new before after = (begun : ℕ) × DrawsForEach begun old new before after
+
 -- the error of a worker with this seat; E2 has a ticket that was drawn there
 pub record Fails (o : Option Job) (t : Tickets) (tasks : ℕ) (s : Seat) (e : RunError) : Type 0 where
   pub of : IsSeatOf t s

@@ -15,6 +15,10 @@ pub trait Gate {
     fn wants_paths() -> bool
         ensures { IsTrue result ↔ wants };
 
+    /// Returns whether it is to observe each task. If not, a worker may run a task with all tasks
+    /// below it in place, and the gate observes only the end of that.
+    fn observes_all() -> bool;
+
     /// Observes a task that is about to take its first turn, on this thread.
     fn enter(&self, task: &Task<'_>)
         requires task { IsTask task.now };
@@ -36,6 +40,10 @@ impl Gate for NoGate {
     ghost wants = { ⊥ };
 
     fn wants_paths() -> bool {
+        false
+    }
+
+    fn observes_all() -> bool {
         false
     }
 

@@ -3,14 +3,14 @@
 ghost use Rattle.std.specs.Prelude.{◌≡◌, ◌+◌, ◌≤◌, ◌++◌, [], ◌∷◌, length, IfErr, IfOk, IfSome};
 ghost use Rattle.std.specs.Prelude.{OnOk, Option, Some};
 ghost use Rattle.types.specs.Translation.{outcome as outcome_in};
-ghost use Rattle.task_run.specs.Jobs.{outcome_of};
+ghost use Rattle.task_run.specs.Jobs.{IsJob, outcome_of};
 ghost use Rattle.finish_scope.specs.Own.{IsOwnPassing};
 ghost use Rattle.tickets.specs.Seats.{drawn_of, id_of};
 ghost use Rattle.worker_threads.specs.DequeEnds.{put_into};
 ghost use Rattle.workers.specs.Own.{HasCode, IsOwnBody, IsOwnChild, IsOwnEnded, IsOwnEnding, IsOwnNext};
-ghost use Rattle.workers.specs.Own.{IsOwnLeaving, IsOwnStep, IsOwnTask, IsOwnTurn};
+ghost use Rattle.workers.specs.Own.{IsOwnLeaving, IsOwnStep, IsOwnTask, IsOwnTurn, IsOwnWhole};
 ghost use Rattle.workers.specs.Causes.{Happens, IsOfResults};
-ghost use Rattle.workers.specs.WorkerStates.{DrawsForEach, Fails, HasSeat, Tells};
+ghost use Rattle.workers.specs.WorkerStates.{DrawsForAll, DrawsForEach, Fails, HasSeat, Tells};
 ghost use Rattle.workers.specs.Words.{IsOwnStub};
 
 use crate::code::OwnCode;
@@ -31,23 +31,44 @@ use finish_scope::inner::Inner;
 use finish_scope::resting::{Passing, Resting};
 use finish_scope::running::Running;
 use plain_code::pieces::ProgramCode;
+use serial_run::passing::{Limit, Most};
+use serial_run::programs::serial_within;
 use std::alloc::AllocError;
 use std::sync::{Arc, Mutex, Wait};
 use std::thread;
 use task_run::job::Job;
 use task_run::result::TaskResult;
 use tickets::{Stub, Tickets};
+use types::laws::typed_programs_are_sound;
 use types::outcome::Outcome;
 use weighted_task::finish::{Ending, Entering, Parked};
 use weighted_task::rooms::TaskRooms;
 use weighted_task::stake::ScopeMark;
 use weighted_task::task::{Child, Task};
-use weighted_task::turn::{WeightedResult as Ended, WeightedTurn};
+use weighted_task::turn::{WeightedResult as Ended, WeightedTurn, WholeChild};
 use weights::weight::Weight;
 use worker_threads::{Crew, Refused};
 
 /// The number of times that a worker looks for a task before it rests.
 const LOOKS: u32 = 64;
+
+/// A task runs whole if at least this many others waited in the deque when it was put there. The
+/// other workers take those first, because they are older.
+const ENOUGH_WAITING: usize = 8;
+
+/// A whole run continues as long as the run of all workers isn't over, and begins at most this many
+/// asyncs.
+#[derive(Drop)]
+struct WhileRunning<'a, 'p, J: Running> {
+    pool: &'a Pool<'p, J>,
+    most: u64,
+}
+
+impl<'a, 'p, J: Running> Limit for WhileRunning<'a, 'p, J> {
+    fn allows(&self, begun: u64) -> bool {
+        begun <= self.most && !self.pool.is_over()
+    }
+}
 
 /// The state that the workers of a run share.
 #[derive(Drop)]
@@ -61,6 +82,7 @@ pub struct Shared<'p, J: Running, G: Gate> {
     pub log: Option<LockedLog<'p, J>>,
     pub ghost of: { J.job ≡ Some job },
     pub ghost word: { J.word ≡ Some (id_of tickets) },
+    pub ghost ok: { IsJob job },
 }
 
 impl<'p, J: Running + Recording, G: Gate> Shared<'p, J, G> {
@@ -229,10 +251,9 @@ impl<'p, J: Running + Recording, G: Gate> Shared<'p, J, G> {
         ensures cause { IfErr result (Happens J.job) }
     {
         let scope = Arc::try_clone(&open_scopes.scope)?;
-        match tasks
-            .own
-            .push(Ready::new(child, scope, open_scopes.place, number, stub))
-        {
+        let is_spare = tasks.own.len() >= ENOUGH_WAITING;
+        let ready = Ready::new(child, scope, open_scopes.place, number, stub, is_spare);
+        match tasks.own.push(ready) {
             Ok(()) => {
                 self.pool.wake();
                 Ok(())
@@ -440,6 +461,46 @@ impl<'p, J: Running + Recording, G: Gate> Shared<'p, J, G> {
         unreachable!()
     }
 
+    /// Runs the program on one thread, if there is no other worker and nobody observes the tasks. It
+    /// draws a ticket for the root and for each async. Returns None if the asyncs are too many, or if
+    /// a task is over its budget: on one thread everything stops then, but tasks apart go on.
+    fn run_alone(&self, state: &mut WorkerAtWork<'p>) -> Result<Option<Outcome>, RunError>
+        requires seat { HasSeat self.now.tickets self.now.settings.tasks state.old.seat }
+        ensures seat { OnOk result
+            (HasSeat self.now.tickets self.now.settings.tasks state.new.seat) }
+        ensures failed { IfErr result
+            (Fails J.job self.now.tickets self.now.settings.tasks state.new.seat) }
+        ensures outcome { IfOk result (λ o. IfSome o (λ x. outcome_in x ≡ outcome_of self.now.job)) }
+    {
+        if self.settings.workers > 1 || J::is_recorded() || G::observes_all() {
+            return Ok(None);
+        }
+        match self.on_one_thread()? {
+            None => Ok(None),
+            Some((outcome, begun)) => {
+                self.draw_all(state, begun.saturating_add(1))?;
+                Ok(Some(outcome))
+            }
+        }
+    }
+
+    /// Runs the program on one thread. Returns its outcome and the number of asyncs that were begun,
+    /// unless they are too many or the program is stopped.
+    fn on_one_thread(&self) -> Result<Option<(Outcome, u64)>, AllocError>
+        ensures { IfOk result (λ r. IfSome r (λ t. outcome_in t.0 ≡ outcome_of self.now.job)) }
+    {
+        typed_programs_are_sound(self.job.accepted.typed());
+        let limit = Most(self.settings.tasks);
+        let codes = &self.code.lend().codes;
+        match serial_within(self.job.plan(), codes, self.job.input, &limit)? {
+            None => Ok(None),
+            Some((outcome, begun)) => match outcome {
+                Outcome::Stopped => Ok(None),
+                outcome => Ok(Some((outcome, begun))),
+            },
+        }
+    }
+
     /// Runs the root from its start. It draws the first ticket.
     fn run_first<R: Wait>(
         &self,
@@ -479,16 +540,119 @@ impl<'p, J: Running + Recording, G: Gate> Shared<'p, J, G> {
         ensures failed { IfErr result
             (Fails J.job self.now.tickets self.now.settings.tasks state.new.seat) }
         ensures outcome { IfOk result (λ o. IfSome o (λ x. outcome_in x ≡ outcome_of self.now.job)) }
-        ensures drawn { OnOk result (DrawsForEach 0 state.old.seat state.new.seat
+        ensures drawn { OnOk result (DrawsForAll state.old.seat state.new.seat
             (put_into tasks.old.own) (put_into tasks.new.own)) }
     {
         let from = ready.from();
+        let is_spare = ready.is_spare();
+        let (child, mut open_scopes) = ready.begin();
+        if self.may_run_whole(state, is_spare, &child) {
+            return self.run_whole(rt, state, tasks, &mut open_scopes, child);
+        }
+        self.run_apart(rt, state, tasks, &mut open_scopes, child, from)
+    }
+
+    /// Runs a spawned task from its start, with each task below it apart.
+    fn run_apart<R: Wait>(
+        &self,
+        rt: &R,
+        state: &mut WorkerAtWork<'p>,
+        tasks: &mut Tasks<'p, J>,
+        open_scopes: &mut OpenScopes<'p, J>,
+        child: Child<'p>,
+        from: usize,
+    ) -> Result<Option<Outcome>, RunError>
+        requires child { IsOwnChild J.job child }
+        requires seat { HasSeat self.now.tickets self.now.settings.tasks state.old.seat }
+        ensures seat { OnOk result
+            (HasSeat self.now.tickets self.now.settings.tasks state.new.seat) }
+        ensures failed { IfErr result
+            (Fails J.job self.now.tickets self.now.settings.tasks state.new.seat) }
+        ensures outcome { IfOk result (λ o. IfSome o (λ x. outcome_in x ≡ outcome_of self.now.job)) }
+        ensures drawn { OnOk result (DrawsForAll state.old.seat state.new.seat
+            (put_into tasks.old.own) (put_into tasks.new.own)) }
+    {
         let mut log_guard = self.hold(rt);
-        let (task, mut open_scopes) = ready.begin(&mut state.rooms)?;
+        let task = child.begin(&mut state.rooms)?;
         note_taken::<J>(&mut log_guard, state.number, from, &task);
         drop(log_guard);
         self.let_in(&task);
-        self.go_on(rt, state, tasks, &mut open_scopes, task)
+        self.go_on(rt, state, tasks, open_scopes, task)
+    }
+
+    /// Returns whether a spawned task may run whole: nobody observes the tasks below it, and the
+    /// other workers have enough to take without them. A plain body has no tasks below it.
+    fn may_run_whole(&self, state: &WorkerAtWork<'p>, is_spare: bool, child: &Child<'p>) -> bool {
+        if J::is_recorded() || G::observes_all() {
+            return false;
+        }
+        match self.code.lend().body(child.start.label) {
+            None => false,
+            Some(body) => body.is_plain || (is_spare && state.runs_whole),
+        }
+    }
+
+    /// Runs a spawned task whole. It draws a ticket for each async that was begun in place.
+    fn run_whole<R: Wait>(
+        &self,
+        rt: &R,
+        state: &mut WorkerAtWork<'p>,
+        tasks: &mut Tasks<'p, J>,
+        open_scopes: &mut OpenScopes<'p, J>,
+        child: Child<'p>,
+    ) -> Result<Option<Outcome>, RunError>
+        requires child { IsOwnChild J.job child }
+        requires seat { HasSeat self.now.tickets self.now.settings.tasks state.old.seat }
+        ensures seat { OnOk result
+            (HasSeat self.now.tickets self.now.settings.tasks state.new.seat) }
+        ensures failed { IfErr result
+            (Fails J.job self.now.tickets self.now.settings.tasks state.new.seat) }
+        ensures outcome { IfOk result (λ o. IfSome o (λ x. outcome_in x ≡ outcome_of self.now.job)) }
+        ensures drawn { OnOk result (DrawsForAll state.old.seat state.new.seat
+            (put_into tasks.old.own) (put_into tasks.new.own)) }
+    {
+        let limit = WhileRunning {
+            pool: &self.pool,
+            most: self.settings.tasks,
+        };
+        let code = self.code.lend();
+        match whole::<J, WhileRunning<'_, 'p, J>>(child, code, &limit, &mut state.rooms)? {
+            WholeChild::Made(ended, begun) => {
+                self.draw_all(state, begun)?;
+                match self.end(rt, state.number, open_scopes, ended)? {
+                    Next::Goes(task) => self.go_on(rt, state, tasks, open_scopes, task),
+                    Next::Idle => Ok(None),
+                    Next::Told(outcome) => Ok(Some(outcome)),
+                }
+            }
+            WholeChild::Cut(begun) => {
+                self.draw_all(state, begun)?;
+                Ok(None)
+            }
+            WholeChild::Again(child) => {
+                state.runs_whole = false;
+                let from = state.number;
+                self.run_apart(rt, state, tasks, open_scopes, child, from)
+            }
+        }
+    }
+
+    /// Draws this many tickets.
+    fn draw_all(&self, state: &mut WorkerAtWork<'p>, number: u64) -> Result<(), RunError>
+        requires seat { HasSeat self.now.tickets self.now.settings.tasks state.old.seat }
+        ensures seat { OnOk result
+            (HasSeat self.now.tickets self.now.settings.tasks state.new.seat) }
+        ensures failed { IfErr result
+            (Fails J.job self.now.tickets self.now.settings.tasks state.new.seat) }
+        ensures count { OnOk result (length (drawn_of state.new.seat)
+            ≡ length (drawn_of state.old.seat) + number) }
+    {
+        let mut left = number;
+        'tickets: while left > 0 {
+            self.draw(state)?;
+            left -= 1;
+        }
+        Ok(())
     }
 
     /// Lends a task to the gate before its first turn.
@@ -547,6 +711,9 @@ impl<'p, J: Running + Recording, G: Gate> Shared<'p, J, G> {
     {
         tasks.thieves = self.pool.thieves(self.job.alloc, state.number)?;
         if let Some(first) = first {
+            if let Some(outcome) = self.run_alone(state)? {
+                return Ok(Some(outcome));
+            }
             if let Some(outcome) = self.run_first(rt, state, tasks, first)? {
                 return Ok(Some(outcome));
             }
@@ -577,6 +744,20 @@ fn go<'p, J: Running>(
     ensures { IfOk result (IsOwnTurn J.job) }
 {
     task.go(code, rooms)
+}
+
+/// Runs a spawned task whole.
+fn whole<'p, J: Running, L: Limit>(
+    child: Child<'p>,
+    code: &ProgramCode<'p>,
+    limit: &L,
+    rooms: &mut TaskRooms<'p>,
+) -> Result<WholeChild<'p>, AllocError>
+    requires own { IsOwnChild J.job child }
+    requires code { HasCode J.job code.now }
+    ensures { IfOk result (IsOwnWhole J.job) }
+{
+    child.run_whole(code, limit, rooms)
 }
 
 /// Takes one turn of a task.
@@ -692,6 +873,7 @@ impl<'p, J: Running + Recording + Send + Sync, G: Gate + Sync> Crew for Shared<'
             parker,
             seat,
             rooms: TaskRooms::new(self.job.alloc),
+            runs_whole: true,
         };
         let told = self.main_loop(rt, &mut state, &mut tasks, first);
         let silent = match &told {

@@ -1,6 +1,6 @@
 //! Tasks that wait for a worker.
 
-ghost use Rattle.std.specs.Prelude.{◌≡◌, IfOk};
+ghost use Rattle.std.specs.Prelude.{◌≡◌};
 ghost use Rattle.workers.specs.Own.{IsOwnChild, IsOwnTask};
 ghost use Rattle.workers.specs.Words.{IsOwnStub};
 
@@ -8,11 +8,9 @@ use crate::open_scopes::OpenScopes;
 use finish_scope::inner::Scope;
 use finish_scope::resting::ScopePosition;
 use finish_scope::running::Running;
-use std::alloc::AllocError;
 use std::marker::Model;
 use std::sync::Arc;
 use tickets::Stub;
-use weighted_task::rooms::TaskRooms;
 use weighted_task::task::{Child, Task};
 
 /// A spawned task of the run, its scope, and the ticket that was drawn for it. Contracts see it as
@@ -26,6 +24,8 @@ pub struct Ready<'p, J: Running> {
     from: usize,
     /// The ticket, which has no bytes here.
     stub: Stub,
+    /// Whether enough others waited in the deque when it was put there.
+    is_spare: bool,
 }
 
 impl<'p, J: Running> Model for Ready<'p, J> {
@@ -41,13 +41,14 @@ impl<'p, J: Running> Model for Ready<'p, J> {
 
 impl<'p, J: Running> Ready<'p, J> {
     /// Returns a task that the worker numbered `from` spawned in the scope at this position, with its
-    /// ticket.
+    /// ticket. `is_spare` says whether enough others wait.
     pub fn new(
         child: Child<'p>,
         scope: Arc<Scope<'p, J>>,
         place: ScopePosition,
         from: usize,
         stub: Stub,
+        is_spare: bool,
     ) -> Ready<'p, J>
         requires own { IsOwnChild J.job child }
         requires drawn { IsOwnStub J.word stub }
@@ -59,6 +60,7 @@ impl<'p, J: Running> Ready<'p, J> {
             place,
             from,
             stub,
+            is_spare,
         }
     }
 
@@ -67,12 +69,14 @@ impl<'p, J: Running> Ready<'p, J> {
         self.from
     }
 
-    /// Returns the task before its first turn, and its scopes. Its ticket is used up.
-    pub fn begin(
-        self,
-        rooms: &mut TaskRooms<'p>,
-    ) -> Result<(Task<'p>, OpenScopes<'p, J>), AllocError>
-        ensures { IfOk result (λ r. IsOwnTask J.job r.0) }
+    /// Returns whether enough other tasks waited when it was put into the deque.
+    pub fn is_spare(&self) -> bool {
+        self.is_spare
+    }
+
+    /// Returns the task, and its scopes. Its ticket is used up.
+    pub fn begin(self) -> (Child<'p>, OpenScopes<'p, J>)
+        ensures { IsOwnChild J.job result.0 }
     {
         let Ready {
             child,
@@ -81,15 +85,14 @@ impl<'p, J: Running> Ready<'p, J> {
             ..
         } = self;
         let outer = Vec::new(child.job.alloc);
-        let task = child.begin(rooms)?;
-        Ok((
-            task,
+        (
+            child,
             OpenScopes {
                 scope,
                 place,
                 outer,
             },
-        ))
+        )
     }
 }
 

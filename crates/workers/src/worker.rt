@@ -37,6 +37,8 @@ pub struct WorkerAtWork<'p> {
     pub parker: Parker,
     pub seat: Seat,
     pub rooms: TaskRooms<'p>,
+    /// Whether it runs whole tasks with asyncs. It stops doing so once such a run was in vain.
+    pub runs_whole: bool,
 }
 
 /// A worker's report.

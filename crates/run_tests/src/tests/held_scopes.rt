@@ -72,6 +72,10 @@ impl Gate for Meeting {
         false
     }
 
+    fn observes_all() -> bool {
+        true
+    }
+
     fn enter(&self, task: &Task<'_>) {
         if is_at(task.path(), FIRST) {
             self.first_is_in.store(true, Ordering::SeqCst);

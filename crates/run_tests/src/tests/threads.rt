@@ -85,6 +85,10 @@ impl Gate for Holding {
         true
     }
 
+    fn observes_all() -> bool {
+        true
+    }
+
     fn enter(&self, task: &Task<'_>) {
         if is_at(task.path(), self.held) && !waited_for(&self.has_left) {
             self.gave_up.store(true, Ordering::SeqCst);
@@ -126,6 +130,10 @@ impl Gate for Counting {
         false
     }
 
+    fn observes_all() -> bool {
+        true
+    }
+
     fn enter(&self, _task: &Task<'_>) {
         self.entered.fetch_add(1, Ordering::SeqCst);
     }
@@ -149,6 +157,10 @@ impl Gate for HoldingFirst {
     ghost wants = { Unit {0} };
 
     fn wants_paths() -> bool {
+        true
+    }
+
+    fn observes_all() -> bool {
         true
     }
 
@@ -193,6 +205,10 @@ impl Gate for Yielding {
         false
     }
 
+    fn observes_all() -> bool {
+        true
+    }
+
     fn enter(&self, _task: &Task<'_>) {
         self.pass();
     }
@@ -222,6 +238,10 @@ impl Gate for Slow {
 
     fn wants_paths() -> bool {
         false
+    }
+
+    fn observes_all() -> bool {
+        true
     }
 
     fn enter(&self, _task: &Task<'_>) {

@@ -1,5 +1,7 @@
-use Rattle.std.proofs.Common.{refl, rules}
+use Rattle.std.proofs.Common.{refl, rules, subst}
 use Rattle.task_run.specs.declared.turn.Done.TheVariants.{Gone, Spawned, Entered, Exceeded}
+use Rattle.task_run.specs.RunTurns.{DoneSpawns}
+use Rattle.weighted_task.specs.Tasks.{IsAsyncOf}
 use Rattle.weighted_task.specs.Turns.{turning}
 use Rattle.weighted_task.proofs.InPlace.{by_done, done_turn, gone_body, keeps, over_body, parts_become, spawned_body, spawned_may}
 use Rattle.weighted_task.proofs.Staying.{few_opened}
@@ -35,6 +37,7 @@ returns-in-Spawned-clause-tasks c =
     let is = done_turn b c.args.done h (Spawned start) c.in-Spawned.is in
     parts_tasks b c.args.share.weight start.value c.spawned.result c.spawned.ensures
     (spawned_body b c.args.done h start.value is) (spawned_may b c.args.done h start.value is)
+    (subst (DoneSpawns (IsAsyncOf b)) c.in-Spawned.is h.label)
 
 pub entered-requires-clause-run : goal.entered-requires-clause-run
 entered-requires-clause-run c = (c.requires.done.after, c.requires.done.has)

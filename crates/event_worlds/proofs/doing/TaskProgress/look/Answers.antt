@@ -15,7 +15,7 @@ ahead-requires-clause-task c =
     let run = c.in_ok-run-in-Starts.run' in (
       t.0,
       begins j c.requires.job t.0 copy run
-          (fresh_copy j c.requires.job t.0 c.in-Starts.start copy c.in_ok-copy-in-Starts.ensures (subst (IsDoing j t.0) c.in-Starts.is t.1))
+          (fresh_copy j c.requires.job t.0 c.in-Starts.start copy c.in_ok-copy-in-Starts.ensures.start (subst (IsDoing j t.0) c.in-Starts.is t.1))
           (ap (λ (q : _). program q.program.now) c.in_ok-run-in-Starts.ensures.plan ∙ c.plan.ensures.program) c.in_ok-run-in-Starts.ensures.nest
           (subst (λ (n : _). IsAt run (begun n (start copy))) (ap (λ (z : _). z.steps) c.plan.ensures.budget) c.in_ok-run-in-Starts.ensures.begun),
     )
@@ -29,7 +29,7 @@ returns-in_ok-known-in-Starts-clause-looked c =
       known = c.in_ok-known-in-Starts.ensures.known;
       same = λ d m. c.in_ok-known-in-Starts.ensures.same d
           (begins j c.requires.job d copy run
-          (fresh_copy j c.requires.job d c.in-Starts.start copy c.in_ok-copy-in-Starts.ensures (subst (IsDoing j d) c.in-Starts.is m))
+          (fresh_copy j c.requires.job d c.in-Starts.start copy c.in_ok-copy-in-Starts.ensures.start (subst (IsDoing j d) c.in-Starts.is m))
           (ap (λ (q : _). program q.program.now) c.in_ok-run-in-Starts.ensures.plan ∙ c.plan.ensures.program) c.in_ok-run-in-Starts.ensures.nest
           (subst (λ (n : _). IsAt run (begun n (start copy))) (ap (λ (z : _). z.steps) c.plan.ensures.budget) c.in_ok-run-in-Starts.ensures.begun));
     }

@@ -11,8 +11,8 @@ use Rattle.task_run.proofs.RunSteps.{did_While, stepped}
 use Rattle.task_run.proofs.Leading.{acts_taken}
 use Rattle.task_run.proofs.run.Run.again.Goals as goal
 
-pub returns-in_ok-take : goal.returns-in_ok-take
-returns-in_ok-take c =
+pub returns-in_ok-take-clause-did : goal.returns-in_ok-take-clause-did
+returns-in_ok-take-clause-did c =
     let m = c.args.self.now in let t = c.takes_step.new.self in
     let step : TakesStep m.thread t
     = subst (λ b. OnTrue b (TakesStep m.thread t)) c.if-takes_step.true c.takes_step.ensures.taken in

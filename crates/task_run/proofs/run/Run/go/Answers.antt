@@ -2,7 +2,7 @@ use Rattle.std.proofs.Common.{◌≡◌, refl, sym, subst}
 use Rattle.types.specs.Translation.{program}
 use Rattle.statement_steps.specs.declared.thread.Plan.{Plan}
 use Rattle.serial_run.specs.Machines.{AreCodes}
-use Rattle.task_run.specs.RunTurns.{IsMore, IsStep, turn_of}
+use Rattle.task_run.specs.RunTurns.{IsMore, IsStep, StepSpawns, turn_of}
 use Rattle.task_run.specs.declared.run.Run.{Run}
 use Rattle.task_run.specs.declared.turn.Done.{Done}
 use Rattle.task_run.specs.declared.turn.Done.TheVariants.{Gone, Spawned, Entered, Exceeded}
@@ -90,6 +90,7 @@ returns-in_default g c =
         step = subst (λ s. IsStep needs c.turns.self s c.step.new.self) c.in-Did.is c.in_ok-done-in-None.ensures.step;
         more = others_are_more c.step.new.self _ c.in_default.not-Gone c.in_default.not-Exceeded;
       };
+      label = subst (StepSpawns (g.N.Needed.IsAsync c.args.needed.now)) c.in-Did.is c.in_ok-done-in-None.ensures.label;
       refused = tt;
     }
 

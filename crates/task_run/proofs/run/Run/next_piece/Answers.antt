@@ -1,15 +1,9 @@
-use Rattle.std.proofs.Common.{◌≡◌, ℕ, ◌-◌, ◌<◌, ◌≤◌, List, [], ◌∷◌, ◌++◌, length, take, sym, ap, ◌∙◌, subst, arith}
-use Rattle.std.proofs.lemmas.Option.{same_Some, slice_get-get_or}
+use Rattle.std.proofs.Common.{◌≡◌, ◌-◌, ◌<◌, ◌≤◌, List, [], ◌∷◌, ◌++◌, length, take, sym, ap, ◌∙◌, subst, arith}
 use Rattle.std.specs.Prelude.{slice_index_or}
 use Rattle.serial_run.specs.declared.code.Flat.{Flat}
 use Rattle.task_run.specs.declared.frame.TaskFrame.{TaskFrame as rFrame}
-use Rattle.task_run.proofs.RunTops.{ends_in_last}
+use Rattle.task_run.proofs.RunTops.{ends_in_last, one_there}
 use Rattle.task_run.proofs.run.Run.next_piece.Goals as goal
-
--- a list has one element at each position
-one_there : {A : Type 0} (xs : List A) (k : ℕ) (x y : A) → k < length xs → x ≡ slice_index_or xs k x → slice_index_or xs k y ≡ y
-    → x ≡ y
-one_there xs k x y lt is at = is ∙ same_Some _ _ (sym (slice_get-get_or xs k x lt) ∙ slice_get-get_or xs k y lt) ∙ at
 
 pub returns-then-has_room_for : goal.returns-then-has_room_for
 returns-then-has_room_for c =

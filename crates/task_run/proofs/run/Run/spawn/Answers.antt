@@ -17,6 +17,7 @@ use Rattle.task_run.specs.Standings.{IsAt, state_of, with_own}
 use Rattle.task_run.specs.Translation.{contents_of, listed, owned_by, start}
 use Rattle.task_run.specs.declared.result.Listed.{Listed as rListed}
 use Rattle.task_run.specs.declared.run.Run.{Run}
+use Rattle.task_run.specs.declared.start.Start.{Start as rStart}
 use Rattle.task_run.proofs.HeldPlaces.{has-append}
 use Rattle.task_run.proofs.RunSteps.{begin_some, done_some, over_some}
 use Rattle.task_run.proofs.run.Run.spawn.Goals as goal
@@ -74,7 +75,7 @@ returns-clause-did g c =
       nest = nest - 1;
       path = m.thread.path.turns.items ++ (m.thread.spawned + 1) ∷ [];
     }) in
-    given ∙ sym c.in_ok-start.ensures ∙ ap start (sym c.in_ok-start-2.ensures) in
+    given ∙ sym c.in_ok-start.ensures.start ∙ ap start (sym c.in_ok-start-2.ensures) in
     let kept : rListed = record {
       path = c.in_ok-child.field-0;
       windows = c.in_ok-windows.windows;
@@ -136,3 +137,11 @@ returns-clause-did g c =
           let st = with_own x (state_of m.thread) in
           (over_some nest some b, done_some needs nest some b st ∙ ap (λ (s : Start). Spawn s ∷ []) (is_start x));
     }
+
+pub returns-clause-label : goal.returns-clause-label
+returns-clause-label g c =
+    let IsAsync = g.N.Needed.IsAsync c.args.needed.now in
+    let s = c.in_ok-start.start in
+    subst (λ (s : rStart). IsAsync s.label (codes s.body.now)) (sym c.in_ok-start-2.ensures)
+    (subst (λ l. IsAsync l (codes s.body.now)) (sym c.in_ok-start.ensures.label)
+    (subst (IsAsync c.args.label) (sym c.in_ok-start.ensures.body) c.requires.can.1))

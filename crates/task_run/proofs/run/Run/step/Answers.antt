@@ -67,7 +67,7 @@ returns-in_ok-done-in-Again-clause-step g c =
     c.in_ok-done-in-Again.done c.again.new.self
     (is_above m.frames top some read)
     (c.pop.ensures.rest ∙ ap (λ (v : Vec rFrame Global). take (v.len - 1) v.items) (is_kept m.frames top some read))
-    (c.in_ok-done-in-Again.ensures needs)
+    (c.in_ok-done-in-Again.ensures.did needs)
 
 pub returns-in_ok-done-in-Turns-clause-step : goal.returns-in_ok-done-in-Turns-clause-step
 returns-in_ok-done-in-Turns-clause-step g c =
@@ -80,7 +80,7 @@ returns-in_ok-done-in-Turns-clause-step g c =
     c.in_ok-done-in-Turns.done c.next_turn.new.self
     (is_above m.frames top some read)
     (c.pop-in-Turns.ensures.rest ∙ ap (λ (v : Vec rFrame Global). take (v.len - 1) v.items) (is_kept m.frames top some read))
-    (c.in_ok-done-in-Turns.ensures needs)
+    (c.in_ok-done-in-Turns.ensures.did needs)
 
 pub returns-in-EndFinish-clause-step : goal.returns-in-EndFinish-clause-step
 returns-in-EndFinish-clause-step g c =

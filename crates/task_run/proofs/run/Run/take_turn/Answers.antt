@@ -24,8 +24,8 @@ enter_turn-requires-clause-piece c =
     subst (λ (v : Thread TaskMemory). piece_of ((environment v.environment).windows t.section.number) t.size t.next ≡ Some (window c.args.piece))
     (sym step.same) c.requires.piece
 
-pub returns-in_ok-enter_turn : goal.returns-in_ok-enter_turn
-returns-in_ok-enter_turn c =
+pub returns-in_ok-enter_turn-clause-did : goal.returns-in_ok-enter_turn-clause-did
+returns-in_ok-enter_turn-clause-did c =
     let m = c.args.self.now in let t = c.args.turns in let u = c.takes_step.new.self in
     let step : TakesStep m.thread u
     = subst (λ b. OnTrue b (TakesStep m.thread u)) c.if-takes_step.true c.takes_step.ensures.taken in
@@ -38,8 +38,8 @@ returns-in_ok-enter_turn c =
     (did_Begun needs t.label (record m { thread = record m.thread { steps = u.steps } }) c.enter_turn.new.self
     t.section.number t.size t.next t.piece.number t.turn.number (codes t.body.now) acts))
 
-pub returns-else-takes_step : goal.returns-else-takes_step
-returns-else-takes_step c =
+pub returns-else-takes_step-clause-did : goal.returns-else-takes_step-clause-did
+returns-else-takes_step-clause-did c =
     let m = c.args.self.now in let t = c.args.turns in let u = c.takes_step.new.self in
     let miss : MissesStep (λ (s : TaskMemory). contents_of s.holdings) m.thread u
     = subst (λ b. OnFalse b (MissesStep (λ (s : TaskMemory). contents_of s.holdings) m.thread u)) c.if-takes_step.false

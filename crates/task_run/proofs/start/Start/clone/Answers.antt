@@ -10,8 +10,8 @@ use Rattle.task_run.proofs.start.Start.clone.Goals as goal
 abbrev owns : Map Held → Places
 owns m q = is_some (owned m q)
 
-pub returns : goal.returns
-returns c =
+pub returns-clause-start : goal.returns-clause-start
+returns-clause-start c =
     let old = c.args.self.now in
     let contents : contents_of c.in_ok-clone.field-0 ≡ contents_of old.holdings = ap (λ (m : Map Held). numbers m) c.in_ok-clone.ensures.held in
     let own : owned_by c.in_ok-clone.field-0 ≡ owned_by old.holdings

@@ -16,5 +16,5 @@ step-requires c =
     subst (GoesBy b.job b.outer.items b.opened) (same_Some _ _ (sym c.requires.has ∙ c.in-Some.is)) c.requires.goes in
     can_go b.job b.outer.items b.opened run run goes (goes_nowhere (needs_of (program_of b.job)) run)
 
-pub returns-in-Ok : goal.returns-in-Ok
-returns-in-Ok c = in_place c.args.self.now c.in-Some.run' c.step.new.self c.in-Some.is c.in-Ok.ensures.step
+pub returns-in-Ok-clause-turn : goal.returns-in-Ok-clause-turn
+returns-in-Ok-clause-turn c = in_place c.args.self.now c.in-Some.run' c.step.new.self c.in-Some.is c.in-Ok.ensures.step

@@ -21,5 +21,5 @@ go-requires c =
           subst (λ (p : Program). NextIsOf p r) (sym goes.may.program) (next_of b.job b.outer.items b.opened run r goes far);
     }
 
-pub returns-in-Ok : goal.returns-in-Ok
-returns-in-Ok c = in_place c.args.self.now c.in-Some.run' c.go.new.self c.in-Some.is c.in-Ok.ensures.step
+pub returns-in-Ok-clause-goes : goal.returns-in-Ok-clause-goes
+returns-in-Ok-clause-goes c = in_place c.args.self.now c.in-Some.run' c.go.new.self c.in-Some.is c.in-Ok.ensures.step
