@@ -52,10 +52,6 @@ use worker_threads::{Crew, Refused};
 /// The number of times that a worker looks for a task before it rests.
 const LOOKS: u32 = 64;
 
-/// A task runs whole if at least this many others waited in the deque when it was put there. The
-/// other workers take those first, because they are older.
-const ENOUGH_WAITING: usize = 8;
-
 /// A whole run continues as long as the run of all workers isn't over, and begins at most this many
 /// asyncs.
 #[derive(Drop)]
@@ -251,7 +247,7 @@ impl<'p, J: Running + Recording, G: Gate> Shared<'p, J, G> {
         ensures cause { IfErr result (Happens J.job) }
     {
         let scope = Arc::try_clone(&open_scopes.scope)?;
-        let is_spare = tasks.own.len() >= ENOUGH_WAITING;
+        let is_spare = tasks.own.len() as u64 >= enough_waiting(self.settings.workers);
         let ready = Ready::new(child, scope, open_scopes.place, number, stub, is_spare);
         match tasks.own.push(ready) {
             Ok(()) => {
@@ -744,6 +740,13 @@ fn go<'p, J: Running>(
     ensures { IfOk result (IsOwnTurn J.job) }
 {
     task.go(code, rooms)
+}
+
+/// Returns how many tasks wait in a deque when the next one is spare. The other workers take those
+/// first, because they are older. If each task spawns two of half its size, the largest spare one is
+/// at most as large as a worker's share.
+fn enough_waiting(workers: u64) -> u64 {
+    2 + workers / 4
 }
 
 /// Runs a spawned task whole.

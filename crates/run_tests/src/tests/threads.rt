@@ -37,6 +37,10 @@ const TURNS: u32 = 1_000_000;
 const MANY_TASKS: &str =
     "main { var k = 0; finish { while k < 500 { async { skip; } k = k + 1; } } print k; }";
 
+/// 2,046 tasks below the root, the deepest 10 inside one another.
+const TREE: &str = "proc tree(n: int) { if n > 0 { async { tree(n - 1); } async { tree(n - 1); } } }
+    main { finish { tree(10); } }";
+
 pub(crate) const TWO_TASKS: &str = "main { finish { async { skip; } async { skip; } } }";
 
 /// The outcome of tasks that do nothing.
@@ -137,6 +141,32 @@ impl Gate for Counting {
     fn enter(&self, _task: &Task<'_>) {
         self.entered.fetch_add(1, Ordering::SeqCst);
     }
+
+    fn leave(&self, _path: Option<&Path>) {
+        self.left.fetch_add(1, Ordering::SeqCst);
+    }
+
+    fn hold(&self) {}
+}
+
+/// A gate that counts the tasks that leave, and lets tasks run whole.
+#[derive(Drop)]
+struct Leaving {
+    left: AtomicU32,
+}
+
+impl Gate for Leaving {
+    ghost wants = { ⊥ };
+
+    fn wants_paths() -> bool {
+        false
+    }
+
+    fn observes_all() -> bool {
+        false
+    }
+
+    fn enter(&self, _task: &Task<'_>) {}
 
     fn leave(&self, _path: Option<&Path>) {
         self.left.fetch_add(1, Ordering::SeqCst);
@@ -376,6 +406,35 @@ fn each_task_passes_the_gate_once(rt: HostRuntime) {
             entered == 500 && left == 500,
             "{entered} entered, {left} left"
         );
+    }
+}
+
+#[test]
+fn spare_tasks_run_whole(rt: HostRuntime) {
+    let alloc = rt.alloc();
+    let program = accepted(&rt, alloc, TREE);
+    let input = Input::zeros(alloc, program.typed()).expect(&rt, "memory");
+    for workers in [1, 2] {
+        let gate = Leaving {
+            left: AtomicU32::new(0),
+        };
+        let settings = settings(&rt, 65_536, 8, workers);
+        let told = unlogged(&rt, alloc, (&program, &input), settings, &gate);
+        let tasks = told.expect(&rt, "an outcome").tasks.number();
+        let left = gate.left.load(Ordering::SeqCst);
+        assert!(rt; tasks == 2_047, "{tasks} tasks");
+        assert!(rt; left < 2_046, "{left} of them weren't in place");
+    }
+}
+
+#[test]
+fn as_many_tasks_as_allowed_end_a_run(rt: HostRuntime) {
+    let alloc = rt.alloc();
+    for workers in [1, 2, 8] {
+        let said = told(&rt, alloc, TREE, settings(&rt, 2_047, 8, workers), &NoGate);
+        compare(&rt, alloc, "as many as allowed", said.as_str(), NOTHING);
+        let said = told(&rt, alloc, TREE, settings(&rt, 2_046, 8, workers), &NoGate);
+        compare(&rt, alloc, "one too many", said.as_str(), "E2");
     }
 }
 
