@@ -54,6 +54,7 @@ impl<'p> Called<'p> {
 
 impl<S: Memory> Thread<S> {
     /// Evaluates a condition. One of the two blocks comes next.
+    #[inline(always)]
     pub fn choose<'p>(
         &mut self,
         plan: Plan<'_>,
@@ -76,6 +77,7 @@ impl<S: Memory> Thread<S> {
 
     /// Evaluates the condition of a loop. If it is true, the body comes next, and then the next
     /// iteration.
+    #[inline(always)]
     pub fn turn_loop<'p>(
         &mut self,
         plan: Plan<'_>,
@@ -95,6 +97,7 @@ impl<S: Memory> Thread<S> {
     }
 
     /// Names both sides of a section. The block comes next.
+    #[inline(always)]
     pub fn split<'p>(
         &mut self,
         plan: Plan<'_>,
@@ -118,6 +121,7 @@ impl<S: Memory> Thread<S> {
     }
 
     /// Evaluates the size of the pieces of a `parts`. Its turns come next.
+    #[inline(always)]
     pub fn begin_turns<'p>(
         &mut self,
         plan: Plan<'_>,
@@ -139,6 +143,7 @@ impl<S: Memory> Thread<S> {
     /// Evaluates the arguments of a call from left to right, and enters the procedure's environment,
     /// which is made in `room`. The procedure's body comes next, and then the caller's environment
     /// comes back.
+    #[inline(always)]
     pub fn call<'p>(
         &mut self,
         plan: Plan<'_>,
