@@ -217,11 +217,8 @@ paused_send κ =
               (
                 search sendable,
                 (
-                  search (sendable, crosses, OfEnvironment.the_send) depth 60 fits 50000,
-                  (
-                    search (sendable, crosses, frame_send) depth 60 fits 50000,
-                    (search (sendable, crosses, OfOuter.the_send) depth 60 fits 50000, tt),
-                  ),
+                  search (sendable, crosses, frame_send) depth 60 fits 50000,
+                  (search (sendable, crosses, OfOuter.the_send) depth 60 fits 50000, tt),
                 ),
               ),
             ),
