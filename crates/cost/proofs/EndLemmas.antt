@@ -4,6 +4,7 @@ use Rattle.std.specs.Prelude.{ℤ}
 use Rattle.types.specs.declared.code.Stmt.{Stmt}
 use Rattle.types.specs.Code.{Codes, Program}
 use Rattle.types.specs.Contents.{held_by}
+use Rattle.types.specs.Meaning.{one}
 use Rattle.types.specs.Outcome.{start, outcome, outcome_by}
 use Rattle.types.specs.Run.{State, Block, keeping}
 use Rattle.types.specs.Translation.{codes, program, budget}
@@ -19,6 +20,7 @@ use Rattle.cost.specs.declared.frame.CostFrame.TheVariants.{Rest}
 use Rattle.cost.specs.declared.account.Account.{Account as rAccount}
 use Rattle.cost.specs.Accounts.{Account, nothing_noted}
 use Rattle.cost.specs.Costs.{nothing_done}
+use Rattle.cost.specs.Kept.{printed}
 use Rattle.cost.specs.Laws.{totals, untallied}
 use Rattle.cost.specs.Resume.{Standing, doing, placed, resume, standing}
 use Rattle.cost.specs.Translation.{account}
@@ -42,6 +44,26 @@ main_on_top p steps nest rows input gs b t y g body state none same =
     ∙ ap (λ (y : Account). doing p steps (Block p.main.body) (at (start tt p steps (held_by input)) y t.nest)) none
     ∙ ap (λ (n : ℕ). doing p steps (Block p.main.body) (at (start tt p steps (held_by input)) (nothing_noted rows) n)) same
 
+-- a thread at its end is in the state that the one-thread meaning leads to
+is_one : (plan : Plan) (t : Thread Store) (y : rAccount) (rows : ℕ) (input : List (List ℤ))
+    → standing y t ≡ end_of (program plan.program.now) plan.budget.steps plan.budget.nest rows input
+    → let p = program plan.program.now in let b = plan.budget in
+    state_of t ≡ one p b.steps b.nest (Block p.main.body) (start tt p b.steps (held_by input))
+is_one plan t y rows input comes =
+    let p = program plan.program.now in
+    let begun : State Account = start (nothing_noted rows) p plan.budget.steps (held_by input) in
+    ap (λ (s : Standing). untallied (totals s.state)) comes
+    ∙ ap untallied (totals-accounted p plan.budget.steps plan.budget.nest (Block p.main.body) begun)
+    ∙ untallied-tallied p plan.budget.steps plan.budget.nest (Block p.main.body)
+    (start nothing_done p plan.budget.steps (held_by input))
+
+-- with what it has printed
+pub told_lines : (plan : Plan) (t : Thread Store) (y : rAccount) (rows : ℕ) (input : List (List ℤ))
+    → standing y t ≡ end_of (program plan.program.now) plan.budget.steps plan.budget.nest rows input
+    → (state_of t).lines ≡ printed (program plan.program.now) input (budget plan.budget)
+told_lines plan t y rows input comes =
+    ap (λ (st : State (Unit {0})). st.lines) (is_one plan t y rows input comes)
+
 -- a thread at its end gives the outcome
 pub told : (plan : Plan) (t : Thread Store) (y : rAccount) (rows : ℕ) (input : List (List ℤ)) → IsInBounds (program plan.program.now) t
     → standing y t ≡ end_of (program plan.program.now) plan.budget.steps plan.budget.nest rows input
@@ -51,14 +73,8 @@ pub told : (plan : Plan) (t : Thread Store) (y : rAccount) (rows : ℕ) (input :
       faults = (state_of t).faults;
     }) ≡ outcome (program plan.program.now) input (budget plan.budget)
 told plan t y rows input bounds comes =
-    let p = program plan.program.now in
-    let begun : State Account = start (nothing_noted rows) p plan.budget.steps (held_by input) in
-    outcome_at p input (lists_of t.store) (budget plan.budget) (state_of t)
-    bounds.store refl
-    (ap (λ (s : Standing). untallied (totals s.state)) comes
-    ∙ ap untallied (totals-accounted p plan.budget.steps plan.budget.nest (Block p.main.body) begun)
-    ∙ untallied-tallied p plan.budget.steps plan.budget.nest (Block p.main.body)
-    (start nothing_done p plan.budget.steps (held_by input)))
+    outcome_at (program plan.program.now) input (lists_of t.store) (budget plan.budget) (state_of t)
+    bounds.store refl (is_one plan t y rows input comes)
 
 -- if nothing is left to do, the machine has the position that it reaches
 pub ended : (old new : CostMachine) → HasEnded old new → stands new ≡ comes_to old nothing

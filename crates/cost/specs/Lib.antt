@@ -9,5 +9,6 @@ pub mod Laws
 pub mod Resume
 pub mod Frames
 pub mod Machines
+pub mod Kept
 pub mod Shares
 pub mod Text

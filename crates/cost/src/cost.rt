@@ -12,6 +12,7 @@ ghost use Rattle.cost.specs.Accounts.{account_of, span_by_label};
 ghost use Rattle.cost.specs.Costs.{cost_of, tally_of};
 ghost use Rattle.cost.specs.Machines.{end_of, stands};
 
+use crate::book::{Book, NoBook};
 use crate::machine::CostMachine;
 use crate::tally::{Tally, as_small};
 use effects::summaries::{Summaries, summarize};
@@ -131,7 +132,7 @@ pub fn measure_by_label(
         budget,
     };
     let summaries = summarize(alloc, typed)?;
-    let machine = ran(plan, &summaries, input, rows)?;
+    let machine = ran(plan, &summaries, input, rows, &mut NoBook)?;
     let costed = Costed {
         cost: Cost::of(machine.account.tally)?,
         outcome: machine.thread.outcome(),
@@ -140,12 +141,13 @@ pub fn measure_by_label(
     Ok(CostByLabel { costed, work, span })
 }
 
-/// Returns the machine of a whole run, at its end.
-fn ran<'p>(
+/// Returns the machine of a whole run, at its end. The run is reported to a book.
+pub(crate) fn ran<'p, B: Book>(
     plan: Plan<'p>,
     summaries: &Summaries,
     input: &Input,
     rows: usize,
+    book: &mut B,
 ) -> Result<CostMachine<'p>, AllocError>
     requires fits { FitsArrays (program_of plan.program.now).arrays (lists_in input.now) }
     requires summaries { AreSummaries (program_of plan.program.now) summaries.now }
@@ -155,6 +157,6 @@ fn ran<'p>(
         (λ m. IsInBounds (program_of plan.entry.program.now) m.thread) }
 {
     let mut machine = CostMachine::at_start(plan, input, rows)?;
-    'turns: while machine.turn(summaries)? {}
+    'turns: while machine.turn(summaries, book)? {}
     Ok(machine)
 }

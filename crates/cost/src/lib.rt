@@ -3,9 +3,11 @@
 #![tactic(auto)]
 
 pub mod account;
+pub mod book;
 pub mod copied;
 pub mod cost;
 pub mod frame;
+pub mod kept;
 pub mod laws;
 pub mod machine;
 pub mod shares;

@@ -3,7 +3,6 @@
 use sections::id::ArrayId;
 use sections::window::Window;
 use types::code::Operator;
-use types::fault::FaultKind;
 
 /// The values that cause a fault. If a statement has several elements or operators, `nth` is the
 /// number of the one at fault, from 0 in the order of the text.
@@ -48,19 +47,4 @@ pub enum Cause {
     },
     /// `fault 3;`
     Raised(i64),
-}
-
-impl Cause {
-    /// Returns the kind of the fault.
-    pub fn kind(self) -> FaultKind {
-        match self {
-            Cause::Index { .. } => FaultKind::Index,
-            Cause::Overflow { .. } | Cause::Negative { .. } => FaultKind::Overflow,
-            Cause::ZeroDivisor { .. } => FaultKind::ZeroDivisor,
-            Cause::OutOfElement { .. } => FaultKind::OutOfElement,
-            Cause::SplitPoint { .. } => FaultKind::SplitPoint,
-            Cause::PieceSize { .. } => FaultKind::PieceSize,
-            Cause::Raised(number) => FaultKind::Raised(number),
-        }
-    }
 }

@@ -21,8 +21,11 @@ pub struct FaultSpot<'t> {
 pub fn spot_of<'s>(
     statements: &'s PlacedStatements<'_>,
     label: Label,
-    cause: Cause,
+    cause: Option<Cause>,
 ) -> Result<FaultSpot<'s>, AllocError> {
+    let Some(cause) = cause else {
+        return Ok(FaultSpot { at: None, name: "" });
+    };
     match cause {
         Cause::Index { nth, .. } => Ok(named_spot(statements.element(label, nth)?)),
         Cause::SplitPoint { .. } | Cause::PieceSize { .. } => {

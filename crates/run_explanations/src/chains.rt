@@ -1,6 +1,5 @@
 //! The calls that led to a statement.
 
-use crate::frame::RepeatedFrame;
 use crate::seen::{CallChain, EqualCalls};
 use excerpts::statements::PlacedStatements;
 use std::alloc::{AllocError, Global};
@@ -10,18 +9,16 @@ use types::code::Label;
 /// row as one.
 const MOST_CALLS: usize = 6;
 
-/// Returns the calls that haven't ended yet, given the work that is left, with the next item last.
-pub fn chain_of(alloc: Global, left: &[RepeatedFrame<'_>]) -> Result<CallChain, AllocError> {
+/// Returns the calls that haven't ended yet, given their labels, with the last call last.
+pub fn chain_of(alloc: Global, calls: &[Label]) -> Result<CallChain, AllocError> {
     let mut chain = CallChain {
         depth: 0,
         last: Vec::new(alloc),
         first: None,
         skips: false,
     };
-    for frame in left.iter().rev() {
-        if let RepeatedFrame::Call { label, .. } = frame {
-            add_call(&mut chain, *label)?;
-        }
+    for label in calls.iter().rev() {
+        add_call(&mut chain, *label)?;
     }
     Ok(chain)
 }

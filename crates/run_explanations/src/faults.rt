@@ -1,15 +1,15 @@
 //! Faults.
 
-use crate::cause::Cause;
 use crate::causes::{push_cause, push_mend, spot_of};
 use crate::chains::push_calls;
 use crate::headings::heading_of;
-use crate::seen::{SeenFault, SeenRun};
+use crate::seen::{FaultNote, SeenRun};
 use excerpts::statements::PlacedStatements;
 use std::alloc::AllocError;
 use types::code::Program;
+use types::fault::{Fault, FaultKind};
 
-/// Adds the recorded faults, and the number of the others.
+/// Adds the first faults, and the number of the others.
 pub fn push_faults(
     told: &mut String,
     statements: &PlacedStatements<'_>,
@@ -18,8 +18,8 @@ pub fn push_faults(
     file: &str,
 ) -> Result<(), AllocError> {
     let mut more = seen.many;
-    for fault in &seen.faults {
-        push_fault(told, statements, code, fault, file)?;
+    for (nth, fault) in seen.faults.iter().enumerate() {
+        push_fault(told, statements, code, fault, seen.notes.get(nth), file)?;
         more = more.saturating_sub(1);
     }
     match more {
@@ -29,36 +29,46 @@ pub fn push_faults(
     }
 }
 
-/// Adds one fault: where, from which values, and how to fix it.
+/// Adds one fault: where, and how it came about.
 fn push_fault(
     told: &mut String,
     statements: &PlacedStatements<'_>,
     code: &Program,
-    fault: &SeenFault,
+    fault: &Fault,
+    note: Option<&FaultNote>,
     file: &str,
 ) -> Result<(), AllocError> {
-    let path = &fault.path;
+    let cause = match note {
+        Some(note) => note.cause,
+        None => None,
+    };
     let label = fault.label;
-    let kind = fault.cause.kind();
-    let spot = spot_of(statements, label, fault.cause)?;
+    let spot = spot_of(statements, label, cause)?;
     let place = statements.place_at(label, spot.at);
-    heading_of(file, word_of(fault.cause)).push(told, place)?;
-    write!(told, "fault {path} at {label}: {kind}\n")?;
+    heading_of(file, word_of(fault.kind)).push(told, place)?;
+    write!(told, "{fault}\n")?;
     statements.push_at(told, label, spot.at)?;
-    push_cause(told, code, spot, fault.cause)?;
-    push_calls(told, statements, &fault.calls)?;
-    push_mend(told, spot, fault.cause)
+    if let Some(cause) = cause {
+        push_cause(told, code, spot, cause)?;
+    }
+    if let Some(note) = note {
+        push_calls(told, statements, &note.calls)?;
+    }
+    match cause {
+        Some(cause) => push_mend(told, spot, cause),
+        None => Ok(()),
+    }
 }
 
-/// Returns the word of the page about a fault.
-fn word_of(cause: Cause) -> &'static str {
-    match cause {
-        Cause::Index { .. } => "F1",
-        Cause::Overflow { .. } | Cause::Negative { .. } => "F2",
-        Cause::ZeroDivisor { .. } => "F3",
-        Cause::OutOfElement { .. } => "F4",
-        Cause::SplitPoint { .. } => "F5",
-        Cause::Raised(_) => "F6",
-        Cause::PieceSize { .. } => "F7",
+/// Returns the word of the page about a kind of fault.
+fn word_of(kind: FaultKind) -> &'static str {
+    match kind {
+        FaultKind::Index => "F1",
+        FaultKind::Overflow => "F2",
+        FaultKind::ZeroDivisor => "F3",
+        FaultKind::OutOfElement => "F4",
+        FaultKind::SplitPoint => "F5",
+        FaultKind::Raised(_) => "F6",
+        FaultKind::PieceSize => "F7",
     }
 }

@@ -1,24 +1,107 @@
-//! The run.
+//! The second run.
 
-use crate::machine::RepeatedRun;
-use crate::seen::{SeenRun, SurplusTask};
+ghost use Rattle.std.specs.Prelude.{◌≡◌, length, map, take, IfOk};
+ghost use Rattle.types.specs.Contents.{FitsArrays};
+ghost use Rattle.types.specs.Outcome.{Ending, outcome as one_thread_outcome, outcome_by};
+ghost use Rattle.types.specs.Translation.{fault as fault_of, input as lists_in};
+ghost use Rattle.types.specs.Translation.{budget as budget_of};
+ghost use Rattle.types.specs.Typed.{code_of};
+ghost use Rattle.statement_steps.specs.Standing.{flow as flow_of, state_of};
+ghost use Rattle.cost.specs.Kept.{outcome_at, printed};
+ghost use Rattle.run_explanations.specs.Seen.{OnlyIfStopped, faults_at, faults_by, faults_of};
+
+use crate::notes::{MOST_FAULTS, RunNotes, TaskLimit};
+use crate::seen::{Overrun, SeenRun, SurplusTask};
 use crate::steps::TaskSteps;
-use statement_steps::thread::Plan;
+use cost::kept::kept;
+use cost::machine::CostMachine;
+use effects::summaries::summarize;
+use statement_steps::flow::Flow;
+use statement_steps::store::Store;
+use statement_steps::thread::{Plan, Thread};
 use std::alloc::{AllocError, Global};
 use types::budget::Budget;
+use types::fault::Fault;
 use types::input::Input;
 use types::typed::Typed;
 
-/// Runs a program on one thread, with each async's body in place, up to its end or to the first
-/// task that is over its budget. Returns what was seen.
+/// The maximum number of printed lines that are shown.
+const MOST_LINES: usize = 10;
+
+/// Runs a program on one thread, with each async's body in place. Returns what was seen. The faults
+/// are those of the one-thread outcome, and a stopped run has none. The input has a list for each
+/// array, of its length.
 pub fn seen_again(
     alloc: Global,
     typed: &Typed,
     input: &Input,
     budget: Budget,
-) -> Result<SeenRun, AllocError> {
-    let machine = ended_run(alloc, typed, input, budget, None)?;
-    Ok(machine.into_seen())
+) -> Result<SeenRun, AllocError>
+    requires { FitsArrays (code_of typed.now).arrays (lists_in input.now) }
+    ensures faults { IfOk result (λ s. map fault_of s.faults.items ≡ take 4 (faults_of
+        (one_thread_outcome (code_of typed.now) (lists_in input.now) (budget_of budget)))) }
+    ensures many { IfOk result (λ s. s.many ≡ length (faults_of
+        (one_thread_outcome (code_of typed.now) (lists_in input.now) (budget_of budget)))) }
+    ensures overrun { IfOk result (λ s. OnlyIfStopped
+        (one_thread_outcome (code_of typed.now) (lists_in input.now) (budget_of budget)) s.overrun) }
+    ensures lines { IfOk result (λ s. map (λ line. line.items) s.lines.items
+        ≡ take 10 (printed (code_of typed.now) (lists_in input.now) (budget_of budget))) }
+    ensures printed { IfOk result (λ s. s.printed
+        ≡ length (printed (code_of typed.now) (lists_in input.now) (budget_of budget))) }
+{
+    let mut notes = RunNotes::new(alloc);
+    let thread = kept(alloc, typed, input, budget, &mut notes)?;
+    Ok(seen_at_end(alloc, thread, notes))
+}
+
+/// Returns what was seen of a run that is at its end.
+fn seen_at_end(alloc: Global, thread: Thread<Store>, notes: RunNotes) -> SeenRun
+    ensures faults { map fault_of result.faults.items ≡ take 4 (faults_at thread) }
+    ensures many { result.many ≡ length (faults_at thread) }
+    ensures overrun { OnlyIfStopped (outcome_at thread) result.overrun }
+    ensures lines { map (λ line. line.items) result.lines.items ≡ take 10 (state_of thread).lines }
+    ensures printed { result.printed ≡ length (state_of thread).lines }
+{
+    let RunNotes {
+        faults: notes,
+        overrun,
+        ..
+    } = notes;
+    let overrun = overrun_left(thread.flow, overrun);
+    let mut lines = thread.lines;
+    let printed = lines.len();
+    lines.truncate(MOST_LINES);
+    let mut faults = faults_left(alloc, thread.flow, thread.faults);
+    let many = faults.len();
+    faults.truncate(MOST_FAULTS);
+    SeenRun {
+        faults,
+        notes,
+        many,
+        overrun,
+        lines,
+        printed,
+    }
+}
+
+/// Returns the faults that a run reports: none if it is stopped.
+fn faults_left(alloc: Global, flow: Flow, faults: Vec<Fault>) -> Vec<Fault>
+    ensures { map fault_of result.items ≡ faults_by (flow_of flow) (map fault_of faults.items) }
+{
+    match flow {
+        Flow::Stopped => Vec::new(alloc),
+        Flow::On | Flow::Faulted => faults,
+    }
+}
+
+/// Returns the task over its budget that a run reports: none if it isn't stopped.
+fn overrun_left(flow: Flow, overrun: Option<Overrun>) -> Option<Overrun>
+    ensures { (e : Ending) → OnlyIfStopped (outcome_by (flow_of flow) e) result }
+{
+    match flow {
+        Flow::Stopped => overrun,
+        Flow::On | Flow::Faulted => None,
+    }
 }
 
 /// Runs a program as `seen_again` does, and returns the statements at which its tasks took steps.
@@ -27,13 +110,12 @@ pub fn steps_again(
     typed: &Typed,
     input: &Input,
     budget: Budget,
-) -> Result<TaskSteps, AllocError> {
-    let steps = TaskSteps::new(alloc);
-    let machine = ended_run(alloc, typed, input, budget, Some(steps))?;
-    match machine.into_steps() {
-        Some(steps) => Ok(steps),
-        None => Ok(TaskSteps::new(alloc)),
-    }
+) -> Result<TaskSteps, AllocError>
+    requires { FitsArrays (code_of typed.now).arrays (lists_in input.now) }
+{
+    let mut steps = TaskSteps::new(alloc);
+    let _thread = kept(alloc, typed, input, budget, &mut steps)?;
+    Ok(steps)
 }
 
 /// The maximum number of statements that are executed to find the async of a task too many.
@@ -47,42 +129,24 @@ pub fn surplus_task(
     input: &Input,
     budget: Budget,
     tasks: u64,
-) -> Result<Option<SurplusTask>, AllocError> {
+) -> Result<Option<SurplusTask>, AllocError>
+    requires { FitsArrays (code_of typed.now).arrays (lists_in input.now) }
+{
     let plan = Plan {
         alloc,
         program: typed.code(),
         budget,
     };
-    let mut machine = RepeatedRun::new(plan, input, None)?;
-    machine.limit_tasks(tasks);
-    for _ in 0..MOST_TURNS {
-        if !machine.advance()? {
+    let summaries = summarize(alloc, typed)?;
+    let mut machine = CostMachine::at_start(plan, input, 0)?;
+    let mut limit = TaskLimit::new(alloc, tasks);
+    'turns: for _ in 0..MOST_TURNS {
+        if limit.surplus.is_some() {
+            break;
+        }
+        if !machine.turn(&summaries, &mut limit)? {
             break;
         }
     }
-    let SeenRun { surplus, .. } = machine.into_seen();
-    Ok(surplus)
-}
-
-/// Runs a program on one thread, up to its end or to the first task that is over its budget. Steps
-/// are added to a record, if there is one.
-fn ended_run<'p>(
-    alloc: Global,
-    typed: &'p Typed,
-    input: &Input,
-    budget: Budget,
-    steps: Option<TaskSteps>,
-) -> Result<RepeatedRun<'p>, AllocError> {
-    let plan = Plan {
-        alloc,
-        program: typed.code(),
-        budget,
-    };
-    let mut machine = RepeatedRun::new(plan, input, steps)?;
-    for _ in 0..u64::MAX {
-        if !machine.advance()? {
-            break;
-        }
-    }
-    Ok(machine)
+    Ok(limit.surplus)
 }

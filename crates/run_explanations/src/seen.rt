@@ -1,18 +1,16 @@
 //! What was seen of a run.
 
 use crate::cause::Cause;
+use cost::book::BudgetPart;
 use types::code::Label;
+use types::fault::Fault;
 use types::path::Path;
 
-/// A fault with its cause.
+/// How a fault came about.
 #[derive(Drop)]
-pub struct SeenFault {
-    /// The task.
-    pub path: Path,
-    /// The statement.
-    pub label: Label,
+pub struct FaultNote {
     pub calls: CallChain,
-    pub cause: Cause,
+    pub cause: Option<Cause>,
 }
 
 /// The calls that led to a statement, the last one first.
@@ -35,15 +33,6 @@ pub struct EqualCalls {
     pub times: u64,
 }
 
-/// A part of a budget.
-#[derive(Clone, Copy, PartialEq, Eq, Debug)]
-pub enum BudgetPart {
-    /// The steps of a task.
-    Steps,
-    /// The nesting depth of asyncs.
-    Nest,
-}
-
 /// A task that was over its budget.
 #[derive(Drop)]
 pub struct Overrun {
@@ -62,18 +51,19 @@ pub struct SurplusTask {
     pub calls: CallChain,
 }
 
-/// What was seen of a run: what it printed, its faults, and why it wasn't run to its end: the first
-/// task in depth-first order that was over its budget, or the first one too many.
+/// What was seen of a run: its faults, or why it was stopped, and what it had printed.
 #[derive(Drop)]
 pub struct SeenRun {
     /// The first faults, in depth-first order.
-    pub faults: Vec<SeenFault>,
-    /// The number of faults.
-    pub many: u64,
+    pub faults: Vec<Fault>,
+    /// How these faults came about, in the same order.
+    pub notes: Vec<FaultNote>,
+    /// The number of all faults.
+    pub many: usize,
+    /// The first task in depth-first order that was over its budget.
     pub overrun: Option<Overrun>,
-    pub surplus: Option<SurplusTask>,
-    /// The numbers of the first printed lines.
+    /// The first printed lines.
     pub lines: Vec<Vec<i64>>,
-    /// The number of printed lines.
-    pub printed: u64,
+    /// The number of all printed lines.
+    pub printed: usize,
 }

@@ -1,5 +1,8 @@
 //! The statements at which tasks take their steps, and the ends of their finishes.
 
+use cost::book::Book;
+use statement_steps::store::Store;
+use statement_steps::thread::Thread;
 use std::alloc::{AllocError, Global};
 use std::collections::HashMap;
 use types::code::Label;
@@ -23,6 +26,16 @@ struct StepLabels {
     ended: usize,
 }
 
+impl Book for TaskSteps {
+    fn step(&mut self, thread: &Thread<Store>, label: Label) -> Result<(), AllocError> {
+        self.add(&thread.path, label)
+    }
+
+    fn leave(&mut self, thread: &Thread<Store>, rescued: usize) -> Result<(), AllocError> {
+        self.add_end(&thread.path, rescued as u64)
+    }
+}
+
 impl TaskSteps {
     /// Creates the record of a run without steps.
     pub(crate) fn new(alloc: Global) -> TaskSteps {
@@ -33,7 +46,7 @@ impl TaskSteps {
     }
 
     /// Adds a step of a task.
-    pub(crate) fn add(&mut self, path: &Path, label: Label) -> Result<(), AllocError> {
+    fn add(&mut self, path: &Path, label: Label) -> Result<(), AllocError> {
         if let Some(steps) = self.by_task.get_mut(path) {
             steps.labels.push(label)?;
             return Ok(());
@@ -51,7 +64,7 @@ impl TaskSteps {
     }
 
     /// Adds the end of a finish of a task, with the number of faults that a rescue drops there, or 0.
-    pub(crate) fn add_end(&mut self, path: &Path, rescued: u64) -> Result<(), AllocError> {
+    fn add_end(&mut self, path: &Path, rescued: u64) -> Result<(), AllocError> {
         // The task has taken a step at the finish.
         if let Some(steps) = self.by_task.get_mut(path) {
             steps.rescued.push(rescued)?;

@@ -2,7 +2,8 @@
 
 use crate::chains::push_calls;
 use crate::headings::heading_of;
-use crate::seen::{BudgetPart, Overrun, SeenRun};
+use crate::seen::{Overrun, SeenRun};
+use cost::book::BudgetPart;
 use excerpts::statements::PlacedStatements;
 use std::alloc::AllocError;
 use types::budget::{Budget, MOST_NEST, MOST_STEPS};

@@ -1,16 +1,32 @@
-//! The evaluation of expressions up to a fault, with the cause of the fault.
+//! The evaluation of a statement up to a fault, with the cause of the fault.
 
 use crate::cause::Cause;
-use sections::id::SectionId;
+use cost::book::Faulty;
+use sections::id::{ArrayId, SectionId};
 use statement_steps::store::Store;
-use types::code::{Link, Number, Operator, Truth};
+use statement_steps::thread::Thread;
+use types::code::{
+    Link, Number, Operator, Pieces, Primitive, Program, Sides, Stmt, StmtKind, Truth,
+};
+use types::element::holds as fits_in;
 use types::fault::FaultKind;
 use types::value::{Environment, Places, holds, operate};
 
-/// An evaluator for the expressions of one statement. It counts the elements and operators that
-/// come earlier in the statement's text.
+/// Returns the cause of a fault of a thread, which has changed nothing since then. Returns None if
+/// there is no fault.
+pub fn cause_of(program: &Program, thread: &Thread<Store>, faulty: Faulty<'_>) -> Option<Cause> {
+    let mut tried = Tried::new(program, thread);
+    match faulty {
+        Faulty::Guard(guard) => tried.truth(guard).err(),
+        Faulty::Statement(stmt) => tried.statement(stmt).err(),
+    }
+}
+
+/// An evaluator for one statement. It counts the elements and operators that come earlier in the
+/// statement's text.
 #[derive(Drop)]
-pub struct Tried<'e> {
+struct Tried<'e> {
+    program: &'e Program,
     environment: &'e Environment,
     store: &'e Store,
     elements: usize,
@@ -18,18 +34,112 @@ pub struct Tried<'e> {
 }
 
 impl<'e> Tried<'e> {
-    /// Returns an evaluator before the first expression of a statement.
-    pub fn new(environment: &'e Environment, store: &'e Store) -> Tried<'e> {
+    /// Returns an evaluator before a statement.
+    fn new(program: &'e Program, thread: &'e Thread<Store>) -> Tried<'e> {
         Tried {
-            environment,
-            store,
+            program,
+            environment: &thread.environment,
+            store: &thread.store,
             elements: 0,
             operators: 0,
         }
     }
 
+    // ---- statements
+
+    /// Evaluates the expressions of a statement.
+    fn statement(&mut self, stmt: &Stmt) -> Result<(), Cause> {
+        match &stmt.kind {
+            StmtKind::Do(primitive) => self.primitive(primitive),
+            StmtKind::If { guard, .. } | StmtKind::While { guard, .. } => {
+                let _ = self.truth(guard)?;
+                Ok(())
+            }
+            StmtKind::Split { sides, .. } => self.split(sides),
+            StmtKind::Parts { pieces, .. } => self.parts(pieces),
+            StmtKind::Call { values, .. } => self.numbers(values),
+            StmtKind::Async { .. } | StmtKind::Finish { .. } | StmtKind::Rescue { .. } => Ok(()),
+        }
+    }
+
+    /// Evaluates the expressions of a statement of one step.
+    fn primitive(&mut self, primitive: &Primitive) -> Result<(), Cause> {
+        match primitive {
+            Primitive::Skip => Ok(()),
+            Primitive::Assign { value, .. } => {
+                let _ = self.number(value)?;
+                Ok(())
+            }
+            Primitive::Store {
+                section,
+                index,
+                value,
+            } => self.stored(*section, index, value),
+            Primitive::Print { values } => self.numbers(values),
+            Primitive::Fault { value } => {
+                let number = self.number(value)?;
+                Err(Cause::Raised(number))
+            }
+        }
+    }
+
+    /// Evaluates a store. An index can cause F1. After that, a value can cause F4.
+    fn stored(&mut self, section: SectionId, index: &Number, value: &Number) -> Result<(), Cause> {
+        let nth = self.next_element();
+        let index = self.number(index)?;
+        let value = self.number(value)?;
+        let window = self.environment.window(section);
+        let Some(place) = window.place(index) else {
+            return Err(Cause::Index { nth, index, window });
+        };
+        let array = place.array;
+        if self.fits(array, value) {
+            Ok(())
+        } else {
+            Err(Cause::OutOfElement { array, value })
+        }
+    }
+
+    /// Returns whether a number fits in an element of an array.
+    fn fits(&self, array: ArrayId, value: i64) -> bool {
+        match self.program.arrays.get(array.number) {
+            Some(array) => fits_in(array.element, value),
+            None => true,
+        }
+    }
+
+    /// Evaluates where a section is split.
+    fn split(&mut self, sides: &Sides) -> Result<(), Cause> {
+        let point = self.number(&sides.at)?;
+        let length = self.environment.window(sides.section).len;
+        match usize::try_from(point) {
+            Ok(at) if at <= length => Ok(()),
+            _ => Err(Cause::SplitPoint { point, length }),
+        }
+    }
+
+    /// Evaluates the size of the pieces of a `parts`.
+    fn parts(&mut self, pieces: &Pieces) -> Result<(), Cause> {
+        let size = self.number(&pieces.size)?;
+        if size < 1 {
+            Err(Cause::PieceSize { size })
+        } else {
+            Ok(())
+        }
+    }
+
+    /// Evaluates several expressions.
+    fn numbers(&mut self, numbers: &[Number]) -> Result<(), Cause> {
+        for number in numbers {
+            let _ = self.number(number)?;
+        }
+        Ok(())
+    }
+
+    // ---- expressions
+
     /// Returns the number of the next element in the text.
-    pub fn next_element(&mut self) -> usize {
+    fn next_element(&mut self) -> usize {
         let nth = self.elements;
         self.elements = nth.saturating_add(1);
         nth
@@ -44,7 +154,7 @@ impl<'e> Tried<'e> {
 
     /// Returns the value of a number expression.
     #[cycle(value)]
-    pub fn number(&mut self, number: &Number) -> Result<i64, Cause> {
+    fn number(&mut self, number: &Number) -> Result<i64, Cause> {
         match number {
             Number::Literal(value) => Ok(*value),
             Number::Scalar { slot } => Ok(self.environment.scalar(*slot)),
@@ -89,7 +199,7 @@ impl<'e> Tried<'e> {
 
     /// Returns the value of a boolean expression.
     #[cycle(truth)]
-    pub fn truth(&mut self, truth: &Truth) -> Result<bool, Cause> {
+    fn truth(&mut self, truth: &Truth) -> Result<bool, Cause> {
         match truth {
             Truth::Constant(value) => Ok(*value),
             Truth::Compare {

@@ -1,5 +1,7 @@
 //! The statements at the events of a trace, and its rescues.
 
+ghost use Rattle.commands.specs.Outcomes.{Fits};
+
 use crate::traces::JudgedTrace;
 use events::event::Event;
 use excerpts::statements::PlacedStatements;
@@ -36,7 +38,9 @@ pub fn statements_of(
     alloc: Global,
     text: &str,
     judged: &JudgedTrace,
-) -> Result<EventStatements, AllocError> {
+) -> Result<EventStatements, AllocError>
+    requires { Fits judged.now.given.accepted.typed judged.now.given.input }
+{
     let mut steps = steps_of(alloc, judged)?;
     let events = &judged.trace.events;
     Ok(EventStatements {
@@ -47,13 +51,17 @@ pub fn statements_of(
 }
 
 /// Finds the label of the statement at each event of a trace, or 0.
-pub fn labels_of(alloc: Global, judged: &JudgedTrace) -> Result<Vec<Label>, AllocError> {
+pub fn labels_of(alloc: Global, judged: &JudgedTrace) -> Result<Vec<Label>, AllocError>
+    requires { Fits judged.now.given.accepted.typed judged.now.given.input }
+{
     let mut steps = steps_of(alloc, judged)?;
     labels_at(alloc, &judged.trace.events, &mut steps)
 }
 
 /// Runs the program of a trace again, and returns the steps of its tasks.
-fn steps_of(alloc: Global, judged: &JudgedTrace) -> Result<TaskSteps, AllocError> {
+fn steps_of(alloc: Global, judged: &JudgedTrace) -> Result<TaskSteps, AllocError>
+    requires { Fits judged.now.given.accepted.typed judged.now.given.input }
+{
     let given = &judged.given;
     let budget = judged.trace.header.budget;
     steps_again(alloc, given.accepted.typed(), &given.input, budget)

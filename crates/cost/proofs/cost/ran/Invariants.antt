@@ -5,11 +5,11 @@ use Rattle.cost.proofs.cost.ran.Given as goal
 
 -- the machine is sound, and reaches the same position as at first
 abbrev pub invariant-turns : goal.invariant-turns
-invariant-turns l = record {
+invariant-turns g l = record {
   sound : IsSound l.machine;
   plan : l.machine.plan ≡ l.initial.machine.plan;
   comes : comes_to l.machine nothing ≡ comes_to l.initial.machine nothing;
 }
 
 abbrev pub decreases-turns : goal.decreases-turns
-decreases-turns l = turns_left l.machine.plan.budget.steps l.machine.thread (stack l.machine)
+decreases-turns g l = turns_left l.machine.plan.budget.steps l.machine.thread (stack l.machine)

@@ -29,7 +29,7 @@ has_step m t y step sound =
     step_counted (machine_of m.plan m.account t m.block m.frames) y (step_sound m.plan m.account m.thread t m.block m.block m.frames step sound)
 
 pub take-requires-clause-sound : goal.take-requires-clause-sound
-take-requires-clause-sound c =
+take-requires-clause-sound g c =
     let m = c.args.self.now in let t = c.takes_step.new.self in
     let step = taken c.takes_step.result m.thread t c.if-takes_step.true c.takes_step.ensures.taken in
     led_sound (begun m t c.step.new.self) c.turn_loop.new.self c.args.label
@@ -37,15 +37,15 @@ take-requires-clause-sound c =
     (has_step m t c.step.new.self step c.requires).sound
 
 pub take-requires-clause-below : goal.take-requires-clause-below
-take-requires-clause-below c =
+take-requires-clause-below g c =
     let m = c.args.self.now in let t = c.takes_step.new.self in
     let step = taken c.takes_step.result m.thread t c.if-takes_step.true c.takes_step.ensures.taken in
     led_below (program m.plan.program.now) t c.turn_loop.new.self c.args.label
     (While (truth c.args.guard.now) (codes c.args.body.now)) c.in_ok-next.next c.in_ok-next.ensures
     (has_step m t c.step.new.self step c.requires).sound.thread
 
-pub returns-in_ok-next-clause-does : goal.returns-in_ok-next-clause-does
-returns-in_ok-next-clause-does c =
+pub returns-in_ok-report_fault-clause-does : goal.returns-in_ok-report_fault-clause-does
+returns-in_ok-report_fault-clause-does g c =
     let m = c.args.self.now in let p = program m.plan.program.now in let fresh = m.plan.budget.steps in
     let t = c.takes_step.new.self in let y = c.step.new.self in
     let step = taken c.takes_step.result m.thread t c.if-takes_step.true c.takes_step.ensures.taken in
@@ -60,8 +60,8 @@ returns-in_ok-next-clause-does c =
     (has_step m t y step c.requires) c.in_ok-next.ensures does))
     c.take.ensures.does
 
-pub returns-in_ok-next-clause-ends : goal.returns-in_ok-next-clause-ends
-returns-in_ok-next-clause-ends c =
+pub returns-in_ok-report_fault-clause-ends : goal.returns-in_ok-report_fault-clause-ends
+returns-in_ok-report_fault-clause-ends g c =
     let m = c.args.self.now in let fresh = m.plan.budget.steps in
     let t = c.takes_step.new.self in let y = c.step.new.self in
     let step = taken c.takes_step.result m.thread t c.if-takes_step.true c.takes_step.ensures.taken in
@@ -75,8 +75,8 @@ returns-in_ok-next-clause-ends c =
     ))
     c.take.ensures.ends
 
-pub returns-else-takes_step-clause-does : goal.returns-else-takes_step-clause-does
-returns-else-takes_step-clause-does c =
+pub returns-in_ok-report_stop-clause-does : goal.returns-in_ok-report_stop-clause-does
+returns-in_ok-report_stop-clause-does g c =
     let m = c.args.self.now in let p = program m.plan.program.now in
     let none = missed c.takes_step.result m.thread c.takes_step.new.self c.if-takes_step.false c.takes_step.ensures.not_taken in
     let steps = ap (λ (t : Thread Store). t.steps) none.same in

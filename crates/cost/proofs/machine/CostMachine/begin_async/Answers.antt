@@ -29,7 +29,7 @@ use Rattle.cost.proofs.Waiting.{resume-frame_block, costs-frame_block}
 use Rattle.cost.proofs.machine.CostMachine.begin_async.Goals as goal
 
 pub returns-clause-does : goal.returns-clause-does
-returns-clause-does c =
+returns-clause-does g c =
     let m = c.args.self.now in let p = program m.plan.program.now in let fresh = m.plan.budget.steps in
     let st = keeping (account m.account) (state_of m.thread) in
     let told = c.take_told.ensures in
@@ -93,7 +93,7 @@ returns-clause-does c =
     }
 
 pub returns-clause-ends : goal.returns-clause-ends
-returns-clause-ends c =
+returns-clause-ends g c =
     let m = c.args.self.now in let fresh = m.plan.budget.steps in
     let end = EndAsync c.in_ok-owner.owner in
     let same = ap (λ (t : Thread Store). fresh * rate fresh (t.nest - 1)) c.take_told.ensures.rest in

@@ -17,7 +17,7 @@ use Rattle.cost.proofs.MachineLemmas.{machine_of, sound_counted, sound_with, tol
 use Rattle.cost.proofs.machine.CostMachine.end_finish.Goals as goal
 
 pub returns-clause-does : goal.returns-clause-does
-returns-clause-does c =
+returns-clause-does g c =
     let m = c.args.self.now in let p = program m.plan.program.now in let fresh = m.plan.budget.steps in
     let o = c.args.outer in
     let told = c.in_ok-tell_before.ensures in
@@ -49,6 +49,6 @@ returns-clause-does c =
     }
 
 pub returns-clause-ends : goal.returns-clause-ends
-returns-clause-ends c =
+returns-clause-ends g c =
     let fresh = c.args.self.now.plan.budget.steps in
     omega (arith, ap (λ (t : Thread Store). t.steps * rate fresh t.nest) c.in_ok-tell_before.ensures.rest)

@@ -18,7 +18,7 @@ use Rattle.cost.proofs.Waiting.{block_done, open_is_one}
 use Rattle.cost.proofs.machine.CostMachine.handle.Goals as goal
 
 pub returns-clause-does : goal.returns-clause-does
-returns-clause-does c =
+returns-clause-does g c =
     let m = c.args.self.now in let p = program m.plan.program.now in let fresh = m.plan.budget.steps in
     let o = c.args.outer in let h = c.args.handler in
     let there = c.catch_faults.new.self in
@@ -50,7 +50,7 @@ returns-clause-does c =
     }
 
 pub returns-clause-ends : goal.returns-clause-ends
-returns-clause-ends c =
+returns-clause-ends g c =
     let m = c.args.self.now in let fresh = m.plan.budget.steps in
     let task = c.in_ok-catch_faults.ensures.task in
     omega (

@@ -24,7 +24,7 @@ use Rattle.cost.proofs.Waiting.{block_done}
 use Rattle.cost.proofs.machine.CostMachine.leave.Goals as goal
 
 pub returns-in-Rest-clause-does : goal.returns-in-Rest-clause-does
-returns-in-Rest-clause-does c =
+returns-in-Rest-clause-does g c =
     let m = c.args.self.now in let p = program m.plan.program.now in let fresh = m.plan.budget.steps in
     let b = c.in-Rest.block in
     subst (λ (f : CostFrame). Does (turn_of f) m (machine_of m.plan m.account m.thread b m.frames)) (sym c.in-Rest.is)
@@ -41,7 +41,7 @@ returns-in-Rest-clause-does c =
     })
 
 pub returns-in-Rest-clause-ends : goal.returns-in-Rest-clause-ends
-returns-in-Rest-clause-ends c =
+returns-in-Rest-clause-ends g c =
     let m = c.args.self.now in let fresh = m.plan.budget.steps in
     omega (
       arith,
@@ -51,7 +51,7 @@ returns-in-Rest-clause-ends c =
     )
 
 pub returns-in_ok-push-in-EndCall-clause-does : goal.returns-in_ok-push-in-EndCall-clause-does
-returns-in_ok-push-in-EndCall-clause-does c =
+returns-in_ok-push-in-EndCall-clause-does g c =
     let m = c.args.self.now in let p = program m.plan.program.now in let fresh = m.plan.budget.steps in
     let caller = c.in-EndCall.environment in let inside = c.replace-callee.new.dest in
     let is : inside ≡ caller = c.replace-callee.ensures.after in
@@ -73,7 +73,7 @@ returns-in_ok-push-in-EndCall-clause-does c =
     })
 
 pub returns-in_ok-end_task-in-EndAsync-clause-does : goal.returns-in_ok-end_task-in-EndAsync-clause-does
-returns-in_ok-end_task-in-EndAsync-clause-does c =
+returns-in_ok-end_task-in-EndAsync-clause-does g c =
     let m = c.args.self.now in let p = program m.plan.program.now in let fresh = m.plan.budget.steps in
     let box = c.in-EndAsync.owner in let q = c.into_inner-owner.result in
     let unboxed = c.into_inner-owner.ensures in
@@ -130,7 +130,7 @@ returns-in_ok-end_task-in-EndAsync-clause-does c =
     })
 
 pub returns-in_ok-end_task-in-EndAsync-clause-ends : goal.returns-in_ok-end_task-in-EndAsync-clause-ends
-returns-in_ok-end_task-in-EndAsync-clause-ends c =
+returns-in_ok-end_task-in-EndAsync-clause-ends g c =
     let m = c.args.self.now in let fresh = m.plan.budget.steps in
     omega (
       arith,

@@ -18,7 +18,7 @@ use Rattle.cost.proofs.Turns.{taken, missed, missed_on, turns-step, five-rate}
 use Rattle.cost.proofs.machine.CostMachine.next_turn.Goals as goal
 
 pub returns-in_default-clause-does : goal.returns-in_default-clause-does
-returns-in_default-clause-does c =
+returns-in_default-clause-does g c =
     let m = c.args.self.now in let t = c.args.turns in
     record {
       plan = refl;
@@ -29,14 +29,14 @@ returns-in_default-clause-does c =
     }
 
 pub enter_turn-requires-clause-step : goal.enter_turn-requires-clause-step
-enter_turn-requires-clause-step c =
+enter_turn-requires-clause-step g c =
     let m = c.args.self.now in
     let step = taken c.takes_step.result m.thread c.takes_step.new.self c.if-takes_step.true c.takes_step.ensures.taken in
     step_counted (machine_of m.plan m.account c.takes_step.new.self m.block m.frames) c.step.new.self
     (step_sound m.plan m.account m.thread c.takes_step.new.self m.block m.block m.frames step c.requires)
 
-pub returns-in_ok-step-clause-does : goal.returns-in_ok-step-clause-does
-returns-in_ok-step-clause-does c =
+pub returns-in_ok-step-2-clause-does : goal.returns-in_ok-step-2-clause-does
+returns-in_ok-step-2-clause-does g c =
     let m = c.args.self.now in let p = program m.plan.program.now in let fresh = m.plan.budget.steps in let t = c.args.turns in
     let step = taken c.takes_step.result m.thread c.takes_step.new.self c.if-takes_step.true c.takes_step.ensures.taken in
     let at : Account → Thread Store → Standing = λ y th. resume p fresh (stack m) (acted p fresh t.label (begun t) (placed y th)) in
@@ -49,8 +49,8 @@ returns-in_ok-step-clause-does c =
     (has_one ((environment m.thread.environment).windows t.section.number) (window c.in-Some.piece) t.size t.next c.in-Some.ensures.piece)))
     c.enter_turn.ensures.does
 
-pub returns-in_ok-step-clause-ends : goal.returns-in_ok-step-clause-ends
-returns-in_ok-step-clause-ends c =
+pub returns-in_ok-step-2-clause-ends : goal.returns-in_ok-step-2-clause-ends
+returns-in_ok-step-2-clause-ends g c =
     let m = c.args.self.now in let fresh = m.plan.budget.steps in
     let step = taken c.takes_step.result m.thread c.takes_step.new.self c.if-takes_step.true c.takes_step.ensures.taken in
     on_ok_weaker c.enter_turn.result
@@ -62,8 +62,8 @@ returns-in_ok-step-clause-ends c =
     ))
     c.enter_turn.ensures.ends
 
-pub returns-else-takes_step-clause-does : goal.returns-else-takes_step-clause-does
-returns-else-takes_step-clause-does c =
+pub returns-in_ok-report_stop-clause-does : goal.returns-in_ok-report_stop-clause-does
+returns-in_ok-report_stop-clause-does g c =
     let m = c.args.self.now in let p = program m.plan.program.now in let t = c.args.turns in
     let none = missed c.takes_step.result m.thread c.takes_step.new.self c.if-takes_step.false c.takes_step.ensures.not_taken in
     let steps = ap (λ (t : Thread Store). t.steps) none.same in

@@ -8,7 +8,7 @@ use Rattle.cost.proofs.Waiting.{block_done}
 use Rattle.cost.proofs.machine.CostMachine.unwind.Goals as goal
 
 pub returns-in_ok-leave-in-Some : goal.returns-in_ok-leave-in-Some
-returns-in_ok-leave-in-Some c =
+returns-in_ok-leave-in-Some g c =
     let m = c.args.self.now in let p = program m.plan.program.now in let fresh = m.plan.budget.steps in
     let f = c.in-Some.frame in let below = c.pop.new.self.items in let s = standing m.account m.thread in
     let does = c.in_ok-leave-in-Some.ensures.does in
