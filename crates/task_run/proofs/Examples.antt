@@ -11,6 +11,7 @@ use Rattle.task_run.specs.Apart.{apart_outcome}
 use Rattle.task_run.specs.Results.{TaskResult, Settled, and_then}
 use Rattle.task_run.specs.OwnRun.{result_of, run_by}
 use Rattle.task_run.specs.Given.{own, given, root_of, told_of}
+use Rattle.task_run.specs.InPlace.{result_in_place}
 use Rattle.task_run.specs.Settling.{settle}
 
 abbrev budget : (steps nest : ℕ) → Budget
@@ -57,12 +58,20 @@ results_of p input (path ∷ paths) =
     among_results (and_then (given p (needs_of p) 100 (root_of p input 5) path) (λ s. Some (result_of (own p (needs_of p) 100 s))))
     ++ results_of p input paths
 
--- the outcome if the root's only finish continues with the results of these paths; if it can't, the
--- root waits
-abbrev told_with : Program → (input : List (List ℤ)) → (paths : List (List ℕ)) → Option Outcome
-told_with p input paths =
-    and_then (settle (result_of (run_by p (needs_of p) 100 (results_of p input paths ∷ []) (root_of p input 5))) [])
+-- what a path's task makes in place, together with all tasks below it
+abbrev in_place_of : Program → (input : List (List ℤ)) → (path : List ℕ) → List TaskResult
+in_place_of p input path =
+    among_results (and_then (given p (needs_of p) 100 (root_of p input 5) path) (λ s. Some (result_in_place p 100 s)))
+
+-- the outcome if the root's only finish continues with these results; if it can't, the root waits
+abbrev told_by : Program → (input : List (List ℤ)) → List TaskResult → Option Outcome
+told_by p input rs =
+    and_then (settle (result_of (run_by p (needs_of p) 100 (rs ∷ []) (root_of p input 5))) [])
     (λ s. Some (told_of p s))
+
+-- with the results of the own runs of these paths
+abbrev told_with : Program → (input : List (List ℤ)) → (paths : List (List ℕ)) → Option Outcome
+told_with p input paths = told_by p input (results_of p input paths)
 
 -- finish { async { a[0] = 7; } b[0] = 8; } print a[0], b[0];
 two_arrays_settled : told_with two_arrays (zeros 1 ∷ zeros 1 ∷ []) ((1 ∷ []) ∷ [])
@@ -94,6 +103,14 @@ nested_in_order = refl
 nested_child_first : told_with nested_tasks [] ((1 ∷ 1 ∷ []) ∷ (1 ∷ []) ∷ [])
     ≡ Some (Ended (record { arrays = []; lines = (pos 1 ∷ []) ∷ (pos 2 ∷ []) ∷ (pos 3 ∷ []) ∷ []; faults = [] }))
 nested_child_first = refl
+
+-- 0.1 runs whole, with 0.1.1 in place; then 0.1.1 has no result of its own
+nested_whole : told_by nested_tasks [] (in_place_of nested_tasks [] (1 ∷ []))
+    ≡ Some (Ended (record { arrays = []; lines = (pos 1 ∷ []) ∷ (pos 2 ∷ []) ∷ (pos 3 ∷ []) ∷ []; faults = [] }))
+nested_whole = refl
+
+nested_twice : told_by nested_tasks [] (in_place_of nested_tasks [] (1 ∷ []) ++ results_of nested_tasks [] ((1 ∷ 1 ∷ []) ∷ [])) ≡ None
+nested_twice = refl
 
 -- ---- unsettled: a missing result, a result twice, one of a stranger; two tasks are pending
 abbrev pending_two : TaskResult

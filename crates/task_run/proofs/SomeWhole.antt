@@ -86,12 +86,12 @@ module _ (p : Program) (needs : Codes → Needs) (fresh : ℕ) (runs_whole : Sta
     Deep k n = (s : Start) → s.nest ≡ n → IsGiven p needs fresh root s → Settles p needs fresh root head (tail n) k s
 
     deep : (k n : ℕ) → Deep k n
-    deep zero n s e is ts rs order once pt parted lt = absurd (omega (arith, lt))
+    deep zero n s e is = λ ts rs order once pt parted lt. absurd (omega (arith, lt))
     deep (suc k) zero s e is = by (runs_whole s)
       where
         by : (b : Bool) → DoneBy k s [] b
         by true ts rs order once pt parted lt = whole_done k s ts rs order once parted
-        by false = settle_complete p needs fresh root (suc k) zero s e is
+        by false ts rs order once pt parted lt = settle_complete p needs fresh root (suc k) zero s e is ts rs order once pt parted lt
     deep (suc k) (suc n) s e is = by (deep k n) (runs_whole s)
       where
         by : Deep k n → (b : Bool) → DoneBy k s (others_of n s b) b
