@@ -1,4 +1,4 @@
-use Rattle.std.proofs.Common.{◌≡◌, ◌∙◌, ap, refl, subst, sym}
+use Rattle.std.proofs.Common.{◌∙◌, ap, refl, subst, sym}
 use Rattle.types.specs.Code.{Program}
 use Rattle.types.specs.Translation.{program}
 use Rattle.plain_code.specs.Pieces.{IsCodeOfProgram}
@@ -7,7 +7,6 @@ use Rattle.task_run.specs.Results.{TaskResult}
 use Rattle.task_run.specs.Translation.{start}
 use Rattle.task_run.specs.WholeRuns.{RunsWhole}
 use Rattle.task_run.specs.declared.start.Start.{Start}
-use Rattle.task_run.specs.declared.whole.WholeRun.{WholeRun}
 use Rattle.weighted_task.specs.Tasks.{IsOfAsync}
 use Rattle.weighted_task.proofs.WholeChildren.{runs_so, same_label, same_may, whole_result}
 use Rattle.weighted_task.proofs.task.Child.run_whole.Goals as goal

@@ -1,5 +1,4 @@
 use Rattle.std.proofs.Common.{arith}
-use Rattle.worker_threads.specs.DequeEnds.{put_into}
 use Rattle.workers.proofs.Draws.{draws_after}
 use Rattle.workers.proofs.main_loop.Shared.run_apart.Goals as goal
 
