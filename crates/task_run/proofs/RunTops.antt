@@ -1,8 +1,9 @@
 -- The top frame of a run, and what its statement may touch.
-use Rattle.std.proofs.Common.{◌≡◌, ℕ, zero, suc, ◌+◌, List, [], ◌∷◌, ◌++◌, length, Ok, refl, sym, ap, ◌∙◌, subst, arith}
+use Rattle.std.proofs.Common.{◌≡◌, ℕ, zero, suc, ◌+◌, ◌<◌, List, [], ◌∷◌, ◌++◌, length, Ok, refl, sym, ap, ◌∙◌, subst, arith}
 use Rattle.std.proofs.Common.{Global, Vec, take}
 use Rattle.std.proofs.Math.Nat.{ℕ_set}
 use Rattle.std.proofs.lemmas.List.{length-append, set-get_or}
+use Rattle.std.proofs.lemmas.Option.{same_Some, slice_get-get_or}
 use Rattle.std.specs.Prelude.{ℤ, Bool, slice_index_or, slice_set}
 use Rattle.std.specs.Vec.{with_item}
 use Rattle.types.proofs.Bindings.{element_in}

@@ -1,6 +1,6 @@
 //! Tasks that run whole: with all tasks below them in place, in the order of one thread.
 
-ghost use Rattle.std.specs.Prelude.{◌≡◌, IfOk, IfSome};
+ghost use Rattle.std.specs.Prelude.{◌≡◌, IfOk, IfSome, true};
 ghost use Rattle.types.specs.Code.{Async};
 ghost use Rattle.types.specs.Translation.{codes as codes_of, program as program_of};
 ghost use Rattle.effects.specs.Statements.{HasStatement};
@@ -39,7 +39,7 @@ impl<'p> Start<'p> {
     /// Runs the task with all tasks below it in place, by the flat code of its body.
     ///
     /// On one thread, everything stops as soon as a task is over its budget, but tasks apart go on.
-    /// So a run that stops isn't kept, unless the body is plain. Then a copy of the start is left.
+    /// So a run that stops isn't kept, unless the body is plain.
     pub fn run_whole<L: Limit>(
         self,
         plan: Plan<'p>,
@@ -57,23 +57,65 @@ impl<'p> Start<'p> {
             return Ok(WholeRun::Again(self));
         };
         if body.is_plain {
-            return match self.run_by(plan, code, body, limit)? {
-                Limited::Done(thread, begun) => Ok(WholeRun::Made(
-                    made(plan.alloc, thread, rooms),
-                    begun,
-                )),
-                Limited::Cut(begun) => Ok(WholeRun::Cut(begun)),
-            };
+            self.run_plain(plan, code, body, limit, rooms)
+        } else {
+            self.run_others(plan, code, body, limit, rooms)
         }
+    }
+
+    /// Runs the task if its body is plain. There are no tasks below it.
+    fn run_plain<L: Limit>(
+        self,
+        plan: Plan<'p>,
+        code: &ProgramCode<'p>,
+        body: BodyCode,
+        limit: &L,
+        rooms: &mut Rooms<'p>,
+    ) -> Result<WholeRun<'p>, AllocError>
+        requires code { IsCodeOfProgram (program_of plan.program.now) code.now }
+        requires body { HasStatement (program_of plan.program.now) self.label
+            (Async (codes_of self.body.now)) }
+        requires fits { FitsBody code.now self body }
+        requires plain { body.is_plain ≡ true }
+        ensures { IfOk result (RunsWhole (program_of plan.entry.program.now)
+            plan.entry.budget.steps self.entry) }
+    {
+        let ran = self.run_by(plan, code, body, limit)?;
+        match ran {
+            Limited::Done(thread, begun) => {
+                let result = made(plan.alloc, thread, rooms);
+                Ok(WholeRun::Made(result, begun))
+            }
+            Limited::Cut(begun) => Ok(WholeRun::Cut(begun)),
+        }
+    }
+
+    /// Runs the task with those below it. If it is stopped, a copy of its start is returned.
+    fn run_others<L: Limit>(
+        self,
+        plan: Plan<'p>,
+        code: &ProgramCode<'p>,
+        body: BodyCode,
+        limit: &L,
+        rooms: &mut Rooms<'p>,
+    ) -> Result<WholeRun<'p>, AllocError>
+        requires code { IsCodeOfProgram (program_of plan.program.now) code.now }
+        requires body { HasStatement (program_of plan.program.now) self.label
+            (Async (codes_of self.body.now)) }
+        requires fits { FitsBody code.now self body }
+        ensures { IfOk result (RunsWhole (program_of plan.entry.program.now)
+            plan.entry.budget.steps self.entry) }
+    {
         let kept = self.clone(plan.alloc)?;
-        match self.run_by(plan, code, body, limit)? {
-            Limited::Done(thread, begun) => match thread.flow {
-                Flow::Stopped => Ok(WholeRun::Again(kept)),
-                Flow::On | Flow::Faulted => Ok(WholeRun::Made(
-                    made(plan.alloc, thread, rooms),
-                    begun,
-                )),
-            },
+        let ran = self.run_by(plan, code, body, limit)?;
+        match ran {
+            Limited::Done(thread, begun) => {
+                if is_stopped(thread.flow) {
+                    return Ok(WholeRun::Again(kept));
+                }
+                let result = made(plan.alloc, thread, rooms);
+                Ok(WholeRun::Made(result, begun))
+            }
             Limited::Cut(begun) => Ok(WholeRun::Cut(begun)),
         }
     }

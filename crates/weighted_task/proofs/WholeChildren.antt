@@ -9,8 +9,8 @@ use Rattle.task_run.specs.MayRun.{MayStart}
 use Rattle.task_run.specs.OwnRun.{Start as Given}
 use Rattle.task_run.specs.Results.{TaskResult}
 use Rattle.task_run.specs.Runs.{IsMadeByTask}
-use Rattle.task_run.specs.Translation.{start, task_result}
-use Rattle.task_run.specs.WholeRuns.{IsSame, RunsWhole}
+use Rattle.task_run.specs.Translation.{start}
+use Rattle.task_run.specs.WholeRuns.{RunsWhole}
 use Rattle.task_run.specs.declared.result.TaskResult.{TaskResult as Made}
 use Rattle.task_run.specs.declared.start.Start.{Start}
 use Rattle.task_run.specs.declared.whole.WholeRun.{WholeRun}

@@ -1,4 +1,4 @@
-//! Runs accepted programs on worker threads, with one task per `async`.
+//! Runs accepted programs on worker threads. Each `async` is a task, or runs in place.
 
 #![tactic(auto)]
 

@@ -39,7 +39,6 @@ use std::thread;
 use task_run::job::Job;
 use task_run::result::TaskResult;
 use tickets::{Stub, Tickets};
-use types::laws::typed_programs_are_sound;
 use types::outcome::Outcome;
 use weighted_task::finish::{Ending, Entering, Parked};
 use weighted_task::rooms::TaskRooms;
@@ -485,10 +484,10 @@ impl<'p, J: Running + Recording, G: Gate> Shared<'p, J, G> {
     fn on_one_thread(&self) -> Result<Option<(Outcome, u64)>, AllocError>
         ensures { IfOk result (λ r. IfSome r (λ t. outcome_in t.0 ≡ outcome_of self.now.job)) }
     {
-        typed_programs_are_sound(self.job.accepted.typed());
         let limit = Most(self.settings.tasks);
         let codes = &self.code.lend().codes;
-        match serial_within(self.job.plan(), codes, self.job.input, &limit)? {
+        let ran = serial_within(self.job.plan(), codes, self.job.input, &limit)?;
+        match ran {
             None => Ok(None),
             Some((outcome, begun)) => match outcome {
                 Outcome::Stopped => Ok(None),

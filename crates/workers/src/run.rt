@@ -41,11 +41,11 @@ use types::input::Input;
 use types::laws::typed_programs_are_sound;
 use worker_threads::{CrewError, work_together};
 
-/// Runs a program on an input, on as many workers as the settings specify, with one task per
-/// `async`. An Ok has the one-thread outcome, whichever worker runs a task, and the number of tasks.
-/// A log that is given is returned with the events of the run, which led to that outcome. A run with
-/// a log is slower, because one worker at a time does what is recorded. The tasks draw their tickets
-/// from a new word.
+/// Runs a program on an input, on as many workers as the settings specify. Each `async` is a task,
+/// or runs in place if no other worker would take it. An Ok has the one-thread outcome, whichever
+/// worker runs a task, and the number of tasks. A log that is given is returned with the events of
+/// the run, which led to that outcome. A run with a log is slower, because one worker at a time
+/// does what is recorded. The tasks draw their tickets from a new word.
 pub fn run<'p, G: Gate + Sync, R: Threads + Wait + Sync>(
     rt: &R,
     alloc: Global,

@@ -2,7 +2,6 @@ use Rattle.std.proofs.Common.{ap, map, List, Vec, Global}
 use Rattle.std.specs.Prelude.{ℤ}
 use Rattle.types.specs.Translation.{fault}
 use Rattle.task_run.specs.Translation.{contents_of, listed, owned_by}
-use Rattle.task_run.specs.declared.result.Listed.{Listed}
 use Rattle.task_run.proofs.whole.made.Goals as goal
 
 pub returns : goal.returns

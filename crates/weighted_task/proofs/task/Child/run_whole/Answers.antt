@@ -1,4 +1,4 @@
-use Rattle.std.proofs.Common.{◌≡◌, ◌∙◌, ap, refl, subst, sym}
+use Rattle.std.proofs.Common.{◌∙◌, ap, refl, subst, sym}
 use Rattle.types.specs.Code.{Program}
 use Rattle.types.specs.Translation.{program}
 use Rattle.plain_code.specs.Pieces.{IsCodeOfProgram}
@@ -7,7 +7,6 @@ use Rattle.task_run.specs.Results.{TaskResult}
 use Rattle.task_run.specs.Translation.{start}
 use Rattle.task_run.specs.WholeRuns.{RunsWhole}
 use Rattle.task_run.specs.declared.start.Start.{Start}
-use Rattle.task_run.specs.declared.whole.WholeRun.{WholeRun}
 use Rattle.weighted_task.specs.Tasks.{IsOfAsync}
 use Rattle.weighted_task.proofs.WholeChildren.{runs_so, same_label, same_may, whole_result}
 use Rattle.weighted_task.proofs.task.Child.run_whole.Goals as goal
@@ -26,7 +25,7 @@ pub returns-in-Made : goal.returns-in-Made
 returns-in-Made g c =
     let child = c.args.self in let ok = c.requires.child in
     let runs = runs_so child ok c.plan.result c.take_out-start.result _ c.plan.ensures.program c.plan.ensures.budget c.take_out-start.ensures
-    c.in_ok-run_whole.ensures in
+    c.in_ok-made.ensures in
     let made = subst (RunsWhole (program_of child.job) child.job.budget.steps child.start.value) c.in-Made.is runs in
     record {
       job = refl;
@@ -40,7 +39,7 @@ pub returns-in_ok-start-in-Again : goal.returns-in_ok-start-in-Again
 returns-in_ok-start-in-Again g c =
     let child = c.args.self in let ok = c.requires.child in
     let runs = runs_so child ok c.plan.result c.take_out-start.result _ c.plan.ensures.program c.plan.ensures.budget c.take_out-start.ensures
-    c.in_ok-run_whole.ensures in
+    c.in_ok-made.ensures in
     let same = subst (RunsWhole (program_of child.job) child.job.budget.steps child.start.value) c.in-Again.is runs in
     let boxed = c.in_ok-start-in-Again.ensures in
     let is_start = ap start boxed ∙ same.start in
