@@ -54,7 +54,6 @@ impl<'p> Called<'p> {
 
 impl<S: Memory> Thread<S> {
     /// Evaluates a condition. One of the two blocks comes next.
-    #[inline(always)]
     pub fn choose<'p>(
         &mut self,
         plan: Plan<'_>,
@@ -77,7 +76,6 @@ impl<S: Memory> Thread<S> {
 
     /// Evaluates the condition of a loop. If it is true, the body comes next, and then the next
     /// iteration.
-    #[inline(always)]
     pub fn turn_loop<'p>(
         &mut self,
         plan: Plan<'_>,
@@ -97,7 +95,6 @@ impl<S: Memory> Thread<S> {
     }
 
     /// Names both sides of a section. The block comes next.
-    #[inline(always)]
     pub fn split<'p>(
         &mut self,
         plan: Plan<'_>,
@@ -121,7 +118,6 @@ impl<S: Memory> Thread<S> {
     }
 
     /// Evaluates the size of the pieces of a `parts`. Its turns come next.
-    #[inline(always)]
     pub fn begin_turns<'p>(
         &mut self,
         plan: Plan<'_>,
@@ -143,7 +139,6 @@ impl<S: Memory> Thread<S> {
     /// Evaluates the arguments of a call from left to right, and enters the procedure's environment,
     /// which is made in `room`. The procedure's body comes next, and then the caller's environment
     /// comes back.
-    #[inline(always)]
     pub fn call<'p>(
         &mut self,
         plan: Plan<'_>,
