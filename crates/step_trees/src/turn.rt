@@ -277,6 +277,7 @@ fn take<'p>(
 }
 
 /// Starts a call, in whose environment the leaf is. The caller's environment comes back after it.
+#[inline(always)]
 fn calls<'p>(
     mut turn: LeafTurn<'p>,
     body: &'p [Stmt],
@@ -303,6 +304,7 @@ fn no_room(alloc: Global) -> Environment {
 }
 
 /// Enters the block of a turn of a `parts`, with its piece. The later turns come after it.
+#[inline(never)]
 fn next_turn<'p>(
     mut turn: LeafTurn<'p>,
     turns: TurnsToCome<'p>,
@@ -322,6 +324,7 @@ fn next_turn<'p>(
 }
 
 /// Spawns the body of an async in parallel with its parent. The body takes all output so far.
+#[inline(never)]
 fn begin_async<'p>(turn: LeafTurn<'p>, body: &'p [Stmt]) -> Result<(Becomes<'p>, Store), AllocError>
     ensures { IfOk result (After turn.entry 0 (Async (codes_of body.entry.now))) }
 {
@@ -340,6 +343,7 @@ fn begin_async<'p>(turn: LeafTurn<'p>, body: &'p [Stmt]) -> Result<(Becomes<'p>,
 
 /// Enters the body of a finish, which takes all output so far, and keeps the leaf that waits for
 /// its end.
+#[inline(never)]
 fn begin_finish<'p>(
     turn: LeafTurn<'p>,
     body: &'p [Stmt],
@@ -391,6 +395,7 @@ fn inside<'p>(
 // ---- the end of a step
 
 /// Continues with a block that runs first.
+#[inline(always)]
 fn enters<'p>(mut turn: LeafTurn<'p>, block: &'p [Stmt]) -> Result<(Becomes<'p>, Store), AllocError>
     ensures { IfOk result (Comes (single (before_rest (codes_of block.entry.now) (leaf_in turn.entry)))
         (store_in turn.entry) turn.entry) }
@@ -400,6 +405,7 @@ fn enters<'p>(mut turn: LeafTurn<'p>, block: &'p [Stmt]) -> Result<(Becomes<'p>,
 }
 
 /// Returns the leaf, which continues, and the store.
+#[inline(always)]
 fn going<'p>(turn: LeafTurn<'p>) -> (Becomes<'p>, Store)
     ensures { Comes (single (leaf_in turn.entry)) (store_in turn.entry) turn.entry result }
 {
@@ -408,6 +414,7 @@ fn going<'p>(turn: LeafTurn<'p>) -> (Becomes<'p>, Store)
 }
 
 /// Returns the leaf, which is done now, and the store.
+#[inline(always)]
 fn ended<'p>(turn: LeafTurn<'p>) -> (Becomes<'p>, Store)
     ensures { Comes (Single (done_leaf (leaf_in turn.entry))) (store_in turn.entry) turn.entry result }
 {
@@ -417,6 +424,7 @@ fn ended<'p>(turn: LeafTurn<'p>) -> (Becomes<'p>, Store)
 }
 
 /// Returns the leaf and the store.
+#[inline(always)]
 fn apart<'p>(turn: LeafTurn<'p>) -> (Leaf<'p>, Store)
     ensures leaf { leaf_of result.0 ≡ leaf_in turn.entry }
     ensures store { result.1 ≡ turn.entry.thread.store }
