@@ -16,6 +16,7 @@ pub mod Frames
 pub mod TurnFrames
 pub mod Rescues
 pub mod Waiting
+pub mod Looping
 pub mod MachineLemmas
 pub mod EndLemmas
 pub mod Going

@@ -1,9 +1,11 @@
 //! One step of a leaf.
 
-ghost use Rattle.std.specs.Prelude.{◌≡◌, false, IfOk, OnOk};
-ghost use Rattle.types.specs.Code.{Async, Do};
+ghost use Rattle.std.specs.Prelude.{◌≡◌, false, map, IfOk, OnOk};
+ghost use Rattle.sections.specs.Translation.{section as section_of};
+ghost use Rattle.types.specs.Code.{Async, Call, Do, If, Parts, Split, While};
 ghost use Rattle.types.specs.Translation.{code as code_of, codes as codes_of, environment as environment_of};
-ghost use Rattle.types.specs.Translation.{primitive as primitive_of};
+ghost use Rattle.types.specs.Translation.{number as number_of, primitive as primitive_of};
+ghost use Rattle.types.specs.Translation.{truth as truth_of};
 ghost use Rattle.types.specs.Trees.{and_then, before_rest, done as done_leaf};
 ghost use Rattle.types.specs.Trees.{held_back, inside as inside_leaf, is_done};
 ghost use Rattle.types.specs.Trees.{returned as returned_leaf, single, Single};
@@ -16,6 +18,7 @@ ghost use Rattle.step_trees.specs.Turns.{MayTurn};
 
 use crate::leaf::{Caller, Handler, Leaf, Waiting, done, returned};
 use crate::rest::{NextStep, RestOfBlock, begin, begin_turns, block_alone, enter, next};
+use sections::id::SectionId;
 use statement_steps::control::Called;
 use statement_steps::flow::Flow;
 use statement_steps::next::Next;
@@ -24,7 +27,8 @@ use statement_steps::thread::{Plan, Thread};
 use statement_steps::turns::TurnsToCome;
 use std::alloc::{AllocError, Global};
 use types::child_number::ChildNumber;
-use types::code::{Label, Primitive, Stmt, StmtKind};
+use types::code::{Label, Number, Pieces, Primitive, Sides, Stmt, StmtKind, Truth};
+use types::ids::ProcedureId;
 use types::path::Path;
 use types::value::Environment;
 
@@ -96,39 +100,21 @@ fn perform<'p>(turn: LeafTurn<'p>, step: NextStep<'p>) -> Result<(Becomes<'p>, S
 }
 
 /// Executes a statement.
-fn statement<'p>(mut turn: LeafTurn<'p>, stmt: &'p Stmt) -> Result<(Becomes<'p>, Store), AllocError>
+fn statement<'p>(turn: LeafTurn<'p>, stmt: &'p Stmt) -> Result<(Becomes<'p>, Store), AllocError>
     requires { IsReady turn }
     ensures { IfOk result (After turn.entry stmt.entry.now.label (code_of stmt.entry.now.kind)) }
 {
-    let (plan, label) = (turn.plan, stmt.label);
     match &stmt.kind {
-        StmtKind::Do(statement) => primitive(turn, label, statement),
-        StmtKind::If { guard, body, other } => {
-            let next = turn.thread.choose(plan, label, guard, body, other)?;
-            take(turn, stmt, next)
-        }
-        StmtKind::While { guard, body } => {
-            let next = turn.thread.turn_loop(plan, label, guard, body)?;
-            take(turn, stmt, next)
-        }
-        StmtKind::Split { sides, body } => {
-            let next = turn.thread.split(plan, label, sides, body)?;
-            take(turn, stmt, next)
-        }
-        StmtKind::Parts { pieces, body } => {
-            let next = turn.thread.begin_turns(plan, label, pieces, body)?;
-            take(turn, stmt, next)
-        }
+        StmtKind::Do(statement) => primitive(turn, stmt.label, statement),
+        StmtKind::If { guard, body, other } => choose(turn, stmt, guard, body, other),
+        StmtKind::While { guard, body } => turn_loop(turn, stmt, guard, body),
+        StmtKind::Split { sides, body } => split(turn, stmt, sides, body),
+        StmtKind::Parts { pieces, body } => parts(turn, stmt, pieces, body),
         StmtKind::Call {
             procedure,
             values,
             sections,
-        } => {
-            let called = Called::of(plan, *procedure, values, sections);
-            let room = no_room(plan.alloc);
-            let next = turn.thread.call(plan, label, called, room)?;
-            take(turn, stmt, next)
-        }
+        } => call(turn, stmt, *procedure, values, sections),
         StmtKind::Async { body } => begin_async(turn, body),
         StmtKind::Finish { body } => begin_finish(turn, body, None),
         StmtKind::Rescue {
@@ -162,7 +148,102 @@ fn primitive<'p>(
     }
 }
 
+/// Enters one of two blocks, depending on the condition.
+#[inline(never)]
+fn choose<'p>(
+    mut turn: LeafTurn<'p>,
+    stmt: &'p Stmt,
+    guard: &Truth,
+    body: &'p [Stmt],
+    other: &'p [Stmt],
+) -> Result<(Becomes<'p>, Store), AllocError>
+    requires ready { IsReady turn }
+    requires same { code_of stmt.now.kind ≡ If (truth_of guard.now) (codes_of body.now)
+        (codes_of other.now) }
+    ensures { IfOk result (After turn.entry stmt.entry.now.label (code_of stmt.entry.now.kind)) }
+{
+    let plan = turn.plan;
+    let next = turn.thread.choose(plan, stmt.label, guard, body, other)?;
+    take(turn, stmt, next)
+}
+
+/// Evaluates the condition of a loop. If it is true, enters the body and then the loop again.
+#[inline(never)]
+fn turn_loop<'p>(
+    mut turn: LeafTurn<'p>,
+    stmt: &'p Stmt,
+    guard: &'p Truth,
+    body: &'p [Stmt],
+) -> Result<(Becomes<'p>, Store), AllocError>
+    requires ready { IsReady turn }
+    requires same { code_of stmt.now.kind ≡ While (truth_of guard.now) (codes_of body.now) }
+    ensures { IfOk result (After turn.entry stmt.entry.now.label (code_of stmt.entry.now.kind)) }
+{
+    let plan = turn.plan;
+    let next = turn.thread.turn_loop(plan, stmt.label, guard, body)?;
+    take(turn, stmt, next)
+}
+
+/// Enters a block in which both sides of a section have names.
+#[inline(never)]
+fn split<'p>(
+    mut turn: LeafTurn<'p>,
+    stmt: &'p Stmt,
+    sides: &Sides,
+    body: &'p [Stmt],
+) -> Result<(Becomes<'p>, Store), AllocError>
+    requires ready { IsReady turn }
+    requires same { code_of stmt.now.kind ≡ Split sides.now.section.number (number_of sides.now.at)
+        sides.now.left.number sides.now.right.number (codes_of body.now) }
+    ensures { IfOk result (After turn.entry stmt.entry.now.label (code_of stmt.entry.now.kind)) }
+{
+    let plan = turn.plan;
+    let next = turn.thread.split(plan, stmt.label, sides, body)?;
+    take(turn, stmt, next)
+}
+
+/// Evaluates the size of the pieces of a `parts`, whose turns run first.
+#[inline(never)]
+fn parts<'p>(
+    mut turn: LeafTurn<'p>,
+    stmt: &'p Stmt,
+    pieces: &Pieces,
+    body: &'p [Stmt],
+) -> Result<(Becomes<'p>, Store), AllocError>
+    requires ready { IsReady turn }
+    requires same { code_of stmt.now.kind ≡ Parts pieces.now.section.number
+        (number_of pieces.now.size) pieces.now.piece.number pieces.now.turn.number
+        (codes_of body.now) }
+    ensures { IfOk result (After turn.entry stmt.entry.now.label (code_of stmt.entry.now.kind)) }
+{
+    let plan = turn.plan;
+    let next = turn.thread.begin_turns(plan, stmt.label, pieces, body)?;
+    take(turn, stmt, next)
+}
+
+/// Evaluates the arguments of a call, and enters the procedure's body.
+#[inline(never)]
+fn call<'p>(
+    mut turn: LeafTurn<'p>,
+    stmt: &'p Stmt,
+    procedure: ProcedureId,
+    values: &'p [Number],
+    sections: &'p [SectionId],
+) -> Result<(Becomes<'p>, Store), AllocError>
+    requires ready { IsReady turn }
+    requires same { code_of stmt.now.kind ≡ Call procedure.number (map number_of values.now)
+        (map section_of sections.now) }
+    ensures { IfOk result (After turn.entry stmt.entry.now.label (code_of stmt.entry.now.kind)) }
+{
+    let plan = turn.plan;
+    let called = Called::of(plan, procedure, values, sections);
+    let room = no_room(plan.alloc);
+    let next = turn.thread.call(plan, stmt.label, called, room)?;
+    take(turn, stmt, next)
+}
+
 /// Goes on with what comes next after a statement.
+#[inline(always)]
 fn take<'p>(
     mut turn: LeafTurn<'p>,
     stmt: &'p Stmt,
@@ -196,6 +277,7 @@ fn take<'p>(
 }
 
 /// Starts a call, in whose environment the leaf is. The caller's environment comes back after it.
+#[inline(always)]
 fn calls<'p>(
     mut turn: LeafTurn<'p>,
     body: &'p [Stmt],
@@ -222,6 +304,7 @@ fn no_room(alloc: Global) -> Environment {
 }
 
 /// Enters the block of a turn of a `parts`, with its piece. The later turns come after it.
+#[inline(never)]
 fn next_turn<'p>(
     mut turn: LeafTurn<'p>,
     turns: TurnsToCome<'p>,
@@ -241,6 +324,7 @@ fn next_turn<'p>(
 }
 
 /// Spawns the body of an async in parallel with its parent. The body takes all output so far.
+#[inline(never)]
 fn begin_async<'p>(turn: LeafTurn<'p>, body: &'p [Stmt]) -> Result<(Becomes<'p>, Store), AllocError>
     ensures { IfOk result (After turn.entry 0 (Async (codes_of body.entry.now))) }
 {
@@ -259,6 +343,7 @@ fn begin_async<'p>(turn: LeafTurn<'p>, body: &'p [Stmt]) -> Result<(Becomes<'p>,
 
 /// Enters the body of a finish, which takes all output so far, and keeps the leaf that waits for
 /// its end.
+#[inline(never)]
 fn begin_finish<'p>(
     turn: LeafTurn<'p>,
     body: &'p [Stmt],
@@ -310,6 +395,7 @@ fn inside<'p>(
 // ---- the end of a step
 
 /// Continues with a block that runs first.
+#[inline(always)]
 fn enters<'p>(mut turn: LeafTurn<'p>, block: &'p [Stmt]) -> Result<(Becomes<'p>, Store), AllocError>
     ensures { IfOk result (Comes (single (before_rest (codes_of block.entry.now) (leaf_in turn.entry)))
         (store_in turn.entry) turn.entry) }
@@ -319,6 +405,7 @@ fn enters<'p>(mut turn: LeafTurn<'p>, block: &'p [Stmt]) -> Result<(Becomes<'p>,
 }
 
 /// Returns the leaf, which continues, and the store.
+#[inline(always)]
 fn going<'p>(turn: LeafTurn<'p>) -> (Becomes<'p>, Store)
     ensures { Comes (single (leaf_in turn.entry)) (store_in turn.entry) turn.entry result }
 {
@@ -327,6 +414,7 @@ fn going<'p>(turn: LeafTurn<'p>) -> (Becomes<'p>, Store)
 }
 
 /// Returns the leaf, which is done now, and the store.
+#[inline(always)]
 fn ended<'p>(turn: LeafTurn<'p>) -> (Becomes<'p>, Store)
     ensures { Comes (Single (done_leaf (leaf_in turn.entry))) (store_in turn.entry) turn.entry result }
 {
@@ -336,6 +424,7 @@ fn ended<'p>(turn: LeafTurn<'p>) -> (Becomes<'p>, Store)
 }
 
 /// Returns the leaf and the store.
+#[inline(always)]
 fn apart<'p>(turn: LeafTurn<'p>) -> (Leaf<'p>, Store)
     ensures leaf { leaf_of result.0 ≡ leaf_in turn.entry }
     ensures store { result.1 ≡ turn.entry.thread.store }

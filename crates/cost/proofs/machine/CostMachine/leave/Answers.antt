@@ -1,9 +1,10 @@
 use Rattle.std.proofs.Common.{◌≡◌, arith, ap, ◌∙◌, refl, sym, subst, ◌++◌, ◌+◌, ◌*◌, ◌≤◌}
+use Rattle.std.proofs.lemmas.Result.{on_ok_weaker}
 use Rattle.types.specs.declared.value.Environment.{Environment}
 use Rattle.types.specs.Translation.{program, environment}
 use Rattle.cost.specs.declared.frame.CostFrame.{CostFrame}
 use Rattle.cost.specs.declared.frame.OwnerCosts.{OwnerCosts}
-use Rattle.cost.specs.declared.frame.CostFrame.TheVariants.{Rest}
+use Rattle.cost.specs.declared.frame.CostFrame.TheVariants.{Again, Rest}
 use Rattle.cost.specs.Frames.{cost, rate}
 use Rattle.cost.specs.Machines.{Does, IsSoundFrame, stack, turn_of}
 use Rattle.types.specs.Contents.{FitsArrays}
@@ -17,9 +18,10 @@ use Rattle.statement_steps.specs.declared.store.Store.{Store}
 use Rattle.statement_steps.specs.declared.thread.Thread.{Thread}
 use Rattle.cost.specs.Translation.{account}
 use Rattle.cost.proofs.Frames.{resume-push}
-use Rattle.cost.proofs.MachineLemmas.{machine_of, told_before}
+use Rattle.cost.proofs.Looping.{comes_by_last}
+use Rattle.cost.proofs.MachineLemmas.{machine_of, sound_pushed, told_before}
 use Rattle.cost.proofs.Owners.{after_owner}
-use Rattle.cost.proofs.Turns.{costs-push}
+use Rattle.cost.proofs.Turns.{costs-push, costs-pushed}
 use Rattle.cost.proofs.Waiting.{block_done}
 use Rattle.cost.proofs.machine.CostMachine.leave.Goals as goal
 
@@ -50,13 +52,53 @@ returns-in-Rest-clause-ends g c =
       ap (cost fresh) c.in-Rest.is,
     )
 
+pub again-requires-clause-sound : goal.again-requires-clause-sound
+again-requires-clause-sound g c =
+    let m = c.args.self.now in let a = c.in-Again in
+    sound_pushed m.plan m.account m.thread m.block m.block m.frames c.push.new.self (Again a.label a.guard a.body) c.in_ok-push-in-Again.ensures.items tt
+    c.requires.sound
+
+pub again-requires-clause-last : goal.again-requires-clause-last
+again-requires-clause-last g c = record { before = c.args.self.now.frames.items; is = c.in_ok-push-in-Again.ensures.items }
+
+pub returns-in_ok-push-in-Again-clause-does : goal.returns-in_ok-push-in-Again-clause-does
+returns-in_ok-push-in-Again-clause-does g c =
+    let m = c.args.self.now in let p = program m.plan.program.now in let fresh = m.plan.budget.steps in
+    let f = Again c.in-Again.label c.in-Again.guard c.in-Again.body in let s = standing m.account m.thread in
+    on_ok_weaker c.again.result
+    (λ does. subst (λ (f : CostFrame). Does (turn_of f) m c.again.new.self) (sym c.in-Again.is)
+    (record {
+      plan = does.plan;
+      sound = does.sound;
+      comes =
+          does.comes
+          ∙ comes_by_last (machine_of m.plan m.account m.thread m.block c.push.new.self) f m.frames.items c.in_ok-push-in-Again.ensures.items c.requires.done
+          ∙ sym (block_done p fresh m.frames.items m.block (frame p fresh f s) c.requires.done);
+    }))
+    c.again.ensures.does
+
+pub returns-in_ok-push-in-Again-clause-ends : goal.returns-in_ok-push-in-Again-clause-ends
+returns-in_ok-push-in-Again-clause-ends g c =
+    let m = c.args.self.now in let fresh = m.plan.budget.steps in
+    let f = Again c.in-Again.label c.in-Again.guard c.in-Again.body in
+    on_ok_weaker c.again.result
+    (λ less. omega (
+      arith,
+      less,
+      costs-pushed fresh m.frames.items c.push.new.self.items f c.in_ok-push-in-Again.ensures.items,
+      costs-push fresh c.push.new.self.items (Rest m.block),
+      costs-push fresh m.frames.items (Rest m.block),
+      ap (cost fresh) c.in-Again.is,
+    ))
+    c.again.ensures.ends
+
 pub returns-in_ok-push-in-EndCall-clause-does : goal.returns-in_ok-push-in-EndCall-clause-does
 returns-in_ok-push-in-EndCall-clause-does g c =
     let m = c.args.self.now in let p = program m.plan.program.now in let fresh = m.plan.budget.steps in
     let caller = c.in-EndCall.environment in let inside = c.replace-callee.new.dest in
     let is : inside ≡ caller = c.replace-callee.ensures.after in
     let fine : LiesInArrays p (environment caller) = subst (IsSoundFrame p fresh) c.in-EndCall.is c.requires.frame in
-    let new = record m { thread = record m.thread { environment = inside; spare = c.push.new.self } } in
+    let new = record m { thread = record m.thread { environment = inside; spare = c.push-in-EndCall.new.self } } in
     subst (λ (f : CostFrame). Does (turn_of f) m new) (sym c.in-EndCall.is)
     (record {
       plan = refl;

@@ -17,7 +17,7 @@ use Rattle.cost.proofs.MachineLemmas.{machine_of, sound_counted, sound_pushed, s
 use Rattle.cost.proofs.Rescues.{end_cost, end_sound, ends_on_top}
 use Rattle.cost.proofs.Turns.{five-rate}
 use Rattle.cost.proofs.Waiting.{resume-frame_block, costs-frame_block}
-use Rattle.cost.proofs.machine.CostMachine.begin_finish.Goals as goal
+use Rattle.cost.proofs.machine.CostMachine.enter_finish.Goals as goal
 
 pub returns-clause-does : goal.returns-clause-does
 returns-clause-does c =

@@ -5,7 +5,7 @@ use Rattle.cost.specs.Resume.{frame, standing}
 use Rattle.cost.proofs.Frames.{resume-pushed}
 use Rattle.cost.proofs.Turns.{costs-push, costs-pushed}
 use Rattle.cost.proofs.Waiting.{block_done}
-use Rattle.cost.proofs.machine.CostMachine.unwind.Goals as goal
+use Rattle.cost.proofs.machine.CostMachine.unwind_frame.Goals as goal
 
 pub returns-in_ok-leave-in-Some : goal.returns-in_ok-leave-in-Some
 returns-in_ok-leave-in-Some g c =
