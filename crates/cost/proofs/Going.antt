@@ -1,13 +1,13 @@
 -- What comes next after a statement, as frames: it is what the statement means.
-use Rattle.std.proofs.Common.{map, Vec, Global, ◌≡◌, ℕ, ◌+◌, ◌*◌, ◌<◌, ◌≤◌, List, [], ◌∷◌, ◌++◌, Ok, Err, refl, sym, ap, ◌∙◌, subst, arith, Bor}
-use Rattle.std.specs.Prelude.{ℤ, Bool, true, false, if◌then◌else◌}
+use Rattle.std.proofs.Common.{map, Vec, Global, ◌≡◌, ℕ, ◌+◌, ◌*◌, ◌<◌, List, [], ◌∷◌, ◌++◌, Ok, Err, refl, sym, ap, ◌∙◌, subst, arith, Bor}
+use Rattle.std.specs.Prelude.{Bool, true, false, if◌then◌else◌}
 use Rattle.sections.specs.Translation.{section}
 use Rattle.sections.specs.declared.id.SectionId.{SectionId as rSection}
 use Rattle.types.specs.declared.code.Number.{Number as rNumber}
 use Rattle.types.specs.declared.code.Stmt.{Stmt}
 use Rattle.types.specs.declared.value.Environment.{Environment as rEnvironment}
 use Rattle.types.specs.Code.{Code, Codes, End, Truth, Program, Do, If, While, Split, Parts, Begun, Call, Async, Finish, Rescue}
-use Rattle.types.specs.Run.{Flow, On, State, Block, Turn, Pieces, go_on, keeping, number_at, numbers_at, truth_at}
+use Rattle.types.specs.Run.{On, State, Block, Turn, Pieces, go_on, keeping, number_at, numbers_at, truth_at}
 use Rattle.types.specs.Translation.{codes, number, program}
 use Rattle.types.specs.TreeSteps.{size_by}
 use Rattle.types.specs.Value.{Valued}
@@ -25,11 +25,11 @@ use Rattle.statement_steps.specs.Primitive.{halves}
 use Rattle.statement_steps.specs.Standing.{flow, state_of}
 use Rattle.statement_steps.proofs.Ends.{fits_too}
 use Rattle.statement_steps.specs.declared.control.Called.{Called}
-use Rattle.statement_steps.proofs.Leading.{IsControl, called_leads, spare_leads, goes_on, kept, led_acts, led_kept, led_lies, whole}
+use Rattle.statement_steps.proofs.Leading.{IsControl, called_leads, spare_leads, goes_on, led_acts, led_kept, led_lies}
 use Rattle.cost.specs.Accounts.{Account, accounted, accounted_rules}
-use Rattle.cost.specs.Frames.{cost, costs, rate, turns_left}
+use Rattle.cost.specs.Frames.{cost, rate, turns_left}
 use Rattle.cost.specs.Machines.{Does, Enters, EntersBlock, HasStep, IsSound, IsSoundFrame, LeavesLess, LiesBelow, comes_to, goes, nothing, stack, stands, statement, step_rate}
-use Rattle.cost.specs.Resume.{Standing, acted, doing, frame, going, placed, resume, standing}
+use Rattle.cost.specs.Resume.{Standing, acted, doing, frame, going, resume, standing}
 use Rattle.cost.specs.Translation.{account}
 use Rattle.cost.specs.declared.account.Account.{Account as rAccount}
 use Rattle.cost.specs.declared.frame.CostFrame.{CostFrame}

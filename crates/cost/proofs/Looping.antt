@@ -1,5 +1,5 @@
 -- The loop in the last frame.
-use Rattle.std.proofs.Common.{ℕ, ◌≡◌, ◌+◌, ◌-◌, List, [], ◌∷◌, ◌++◌, Vec, Global, length, refl, sym, ap, ◌∙◌, arith}
+use Rattle.std.proofs.Common.{ℕ, ◌≡◌, ◌-◌, List, [], ◌∷◌, ◌++◌, Vec, Global, length, refl, sym, ap, ◌∙◌, arith}
 use Rattle.std.specs.Prelude.{Bool, true, false, Ok, Err, if◌then◌else◌, take}
 use Rattle.std.proofs.lemmas.List.{length-append}
 use Rattle.std.proofs.lemmas.List.Elements.{All-same, All-take}
@@ -9,7 +9,7 @@ use Rattle.types.specs.Translation.{program}
 use Rattle.types.specs.Value.{Valued}
 use Rattle.statement_steps.specs.declared.store.Store.{Store}
 use Rattle.statement_steps.specs.declared.thread.Thread.{Thread}
-use Rattle.statement_steps.specs.Leading.{Next, Nothing, Iteration, Led, by_value, led, leads_to}
+use Rattle.statement_steps.specs.Leading.{Next, Nothing, Iteration, by_value, led, leads_to}
 use Rattle.statement_steps.specs.Standing.{TakesStep, flow}
 use Rattle.cost.specs.Accounts.{Account, steps_at}
 use Rattle.cost.specs.declared.account.Account.{Account as rAccount}

@@ -1,25 +1,19 @@
 -- The turns of a `parts` as frames.
-use Rattle.std.proofs.Common.{◌≡◌, ℕ, ◌+◌, List, [], ◌∷◌, ◌++◌, Ok, Err, refl, sym, ap, ◌∙◌, Bor}
-use Rattle.std.specs.Prelude.{true, false, ok_or}
+use Rattle.std.proofs.Common.{◌≡◌, ℕ, ◌+◌, List, [], ◌∷◌, ◌++◌, refl, sym, ap, ◌∙◌}
+use Rattle.std.specs.Prelude.{true, false}
 use Rattle.sections.specs.Place.{has_piece}
-use Rattle.types.specs.declared.code.Stmt.{Stmt}
-use Rattle.types.specs.declared.fault.FaultKind.{FaultKind}
-use Rattle.types.specs.declared.fault.FaultKind.TheVariants.{PieceSize}
-use Rattle.types.specs.Code.{Number, Parts, Codes, End, Program}
-use Rattle.types.specs.Run.{Flow, On, Faulted, Stopped, State, Pieces, at_flow, fault, number_at, piece_size, window_at}
+use Rattle.types.specs.Code.{Program}
+use Rattle.types.specs.Run.{Flow, On, Faulted, Stopped, State, at_flow, window_at}
 use Rattle.types.specs.Run.{with_step, choose, in_turn, stopped, act, counted, spend}
 use Rattle.types.specs.Translation.{codes}
-use Rattle.types.specs.TreeSteps.{size_by}
 use Rattle.types.specs.Value.{Environment}
-use Rattle.types.proofs.Solutions.{value_twice}
 use Rattle.statement_steps.specs.declared.turns.TurnsToCome.{TurnsToCome}
 use Rattle.statement_steps.specs.Turns.{begun, pieces}
 use Rattle.cost.specs.declared.frame.CostFrame.{CostFrame}
 use Rattle.cost.specs.declared.frame.CostFrame.TheVariants.{Rest, Turns}
 use Rattle.cost.specs.Accounts.{Account, accounted, accounted_rules}
-use Rattle.cost.specs.Laws.{totals, untallied}
 use Rattle.cost.specs.Resume.{Standing, acted, doing, resume}
-use Rattle.cost.proofs.Frames.{flow_on, meant, acted_by, step_taken, not_done, blocked, block_on_top, resume-pushed, faulted, paid}
+use Rattle.cost.proofs.Frames.{flow_on, meant, step_taken, not_done, blocked, block_on_top, resume-pushed, paid}
 
 module _ (p : Program) (fresh : ℕ) where
   -- the block of a turn whose step was taken, and the later turns below it

@@ -1,23 +1,21 @@
 -- What a statement leads to is what a leaf becomes by it.
-use Rattle.std.proofs.Common.{Bor, ◌≡◌, ℕ, List, ◌∷◌, Ok, Err, refl, sym, ap, ◌∙◌, subst, Result}
-use Rattle.std.specs.Prelude.{ℤ, Bool, true, false, IfOk, map, ok_or, if◌then◌else◌}
+use Rattle.std.proofs.Common.{Bor, ◌≡◌, ℕ, List, Ok, Err, refl, sym, ap, ◌∙◌, subst, Result}
+use Rattle.std.specs.Prelude.{Bool, true, false, IfOk, map, if◌then◌else◌}
 use Rattle.std.specs.declared.alloc.AllocError.{AllocError}
-use Rattle.sections.specs.Place.{Window, has_piece, sides_of}
-use Rattle.types.specs.declared.fault.FaultKind.TheVariants.{SplitPoint, PieceSize}
 use Rattle.types.specs.Code.{Code, Codes, Truth, Program, Do, If, While, Split, Parts, Begun, Call, Async, Finish, Rescue}
-use Rattle.types.specs.Contents.{Contents, read}
-use Rattle.types.specs.Run.{Flow, State, number_at, numbers_at, piece_size, truth_at, window_at}
+use Rattle.types.specs.Contents.{Contents}
+use Rattle.types.specs.Run.{State, number_at, numbers_at, truth_at}
 use Rattle.sections.specs.Translation.{section}
 use Rattle.sections.specs.declared.id.SectionId.{SectionId as rSection}
 use Rattle.types.specs.declared.code.Number.{Number as rNumber}
 use Rattle.types.specs.Translation.{number, program}
 use Rattle.types.specs.Trees.{Leaf, Tree, before_rest, single}
 use Rattle.types.specs.TreeSteps.{as_state, on_value, size_by, store_after, tree_after}
-use Rattle.types.specs.Value.{Valued, then_try}
+use Rattle.types.specs.Value.{Valued}
 use Rattle.statement_steps.specs.declared.next.Next.{Next as rNext}
 use Rattle.statement_steps.specs.declared.store.Store.{Store}
 use Rattle.statement_steps.specs.declared.thread.Thread.{Thread}
-use Rattle.statement_steps.specs.Leading.{Next, Nothing, Inside, Iteration, Turns, Body, Led, Leads, by_value, led, leads_to, next_of}
+use Rattle.statement_steps.specs.Leading.{Next, Nothing, Inside, Iteration, Led, Leads, by_value, led, leads_to, next_of}
 use Rattle.statement_steps.specs.Lists.{contents_of, lengths_of}
 use Rattle.statement_steps.specs.Primitive.{halves}
 use Rattle.statement_steps.specs.Standing.{flow, state_of}

@@ -4,12 +4,11 @@ use Rattle.std.proofs.lemmas.Option.{same_Some}
 use Rattle.std.specs.Prelude.{IfOk, Bool, true, false, if◌then◌else◌}
 use Rattle.std.specs.declared.alloc.AllocError.{AllocError}
 use Rattle.sections.specs.Place.{Window, has_piece, piece_at, piece_of}
-use Rattle.types.specs.Code.{Code, Codes, Primitive, Procedure, Program, Do, End, Then}
+use Rattle.types.specs.Code.{Code, Codes, Primitive, Program, Do, Then}
 use Rattle.types.specs.Contents.{Contents, read}
 use Rattle.types.specs.Run.{Flow, On, Faulted, Stopped, State, primitive}
-use Rattle.types.specs.Trees.{Caller, Leaf, Handler, Tree, Single, Beside, and_then, single, done, called, child, parent, inside, held_back, returned}
+use Rattle.types.specs.Trees.{Leaf, Handler, Tree, Single, Beside, and_then, single, done, child, parent, inside, held_back, returned}
 use Rattle.types.specs.TreeSteps.{as_state, by_flow, with_state, tree_after, store_after, leaf_step}
-use Rattle.types.specs.Value.{Environment}
 use Rattle.statement_steps.specs.declared.store.Store.{Store}
 use Rattle.statement_steps.specs.declared.thread.Thread.{Thread}
 use Rattle.statement_steps.specs.Lists.{lengths_of}
@@ -18,7 +17,6 @@ use Rattle.step_trees.specs.declared.turn.Becomes.{Becomes}
 use Rattle.step_trees.specs.declared.turn.LeafTurn.{LeafTurn}
 use Rattle.step_trees.specs.Turns.{leaf_at, leaf_in, store_in, Comes, After, IsReady}
 use Rattle.step_trees.proofs.Deeds.{Deed, Nothing, Assigns, Writes, Prints, Fails, deed, did, primitive-did}
-use Rattle.step_trees.proofs.Rests.{returned-up}
 
 abbrev pub some_of : Tree → Contents → Option (Tree × Contents)
 some_of t a = Some (t, a)

@@ -1,4 +1,4 @@
-use Rattle.std.proofs.Common.{◌≡◌, List, ◌∷◌, ap, ◌∙◌, refl, Vec, Global}
+use Rattle.std.proofs.Common.{List, ◌∷◌, ap, ◌∙◌, Vec, Global}
 use Rattle.types.specs.Code.{Codes}
 use Rattle.types.specs.Translation.{codes, environment}
 use Rattle.types.specs.Trees.{Caller, Leaf, Tree, single}

@@ -1,6 +1,6 @@
 use Rattle.std.proofs.Common.{◌≡◌, ◌-◌, ◌*◌, List, Vec, Global, arith, ap, ◌∙◌, length, refl, sym, take}
 use Rattle.std.proofs.lemmas.Result.{on_ok_weaker}
-use Rattle.types.specs.Code.{Code, While}
+use Rattle.types.specs.Code.{While}
 use Rattle.types.specs.Translation.{program, truth, codes}
 use Rattle.statement_steps.specs.declared.store.Store.{Store}
 use Rattle.statement_steps.specs.declared.thread.Thread.{Thread}
