@@ -125,7 +125,9 @@ impl<'p, J: Running> First<'p, J> {
     /// root is a task of the run.
     pub fn shows_job(&self)
         ensures { HasJob J.job }
-    {}
+    {
+        let _root = &self.task;
+    }
 
     /// Returns the task before its first turn, and its scopes. Its ticket is used up; only the
     /// contract needs it.
