@@ -1,7 +1,7 @@
 -- Draws below the maximum of tasks, and what reports say together.
 use Rattle.std.proofs.Common.{◌≡◌, ℕ, ◌+◌, ◌<◌, ◌≤◌, ◌==◌, cond, List, [], ◌∷◌, ◌++◌, Option, Some, None, All, length}
 use Rattle.std.proofs.Common.{sym, refl, ap, subst, ◌∙◌, arith, ◌⊎◌, inl, inr, length-append}
-use Rattle.std.specs.Prelude.{Err, IfErr, IfOk, IfSome, Ok, OnOk, Result}
+use Rattle.std.specs.Prelude.{IfErr, IfOk, IfSome, Result}
 use Rattle.std.proofs.lemmas.Grind.{flat_map-append}
 use Rattle.std.proofs.lemmas.List.{append-nil}
 use Rattle.std.proofs.lemmas.List.Elements.{All-nil, All-push}
@@ -23,7 +23,7 @@ use Rattle.tickets.specs.declared.word.Seat.{Seat}
 use Rattle.tickets.specs.declared.word.Tickets.{Tickets}
 use Rattle.workers.specs.Causes.{HasDrawn, HasTicket, HasTicketFrom, IsReason}
 use Rattle.workers.specs.Words.{IsFresh}
-use Rattle.workers.specs.WorkerStates.{AreBelow, DrawsForAll, DrawsForEach, EndsRun, Fails, HasSeat, TellTogether, Tells}
+use Rattle.workers.specs.WorkerStates.{AreBelow, DrawsForEach, EndsRun, Fails, HasSeat, TellTogether, Tells}
 use Rattle.workers.specs.declared.worker.Report.{Report}
 
 -- ---- one seat
@@ -87,17 +87,13 @@ draws_for_both s s' s'' xs ys zs first second = omega (arith, first, second)
 
 -- tickets were drawn for asyncs in place before
 pub draws_in_place : {T : Type 0} (s s' s'' : Seat) (n : ℕ) (xs ys : List T)
-    → length (drawn_of s') ≡ length (drawn_of s) + n → DrawsForEach 0 s' s'' xs ys → DrawsForAll s s'' xs ys
-draws_in_place s s' s'' n xs ys drawn each = (n, omega (arith, drawn, each))
+    → length (drawn_of s') ≡ length (drawn_of s) + n → DrawsForEach 0 s' s'' xs ys → DrawsForEach n s s'' xs ys
+draws_in_place s s' s'' n xs ys drawn each = omega (arith, drawn, each)
 
-pub draws_only_in_place : {T : Type 0} (s s' : Seat) (n : ℕ) (xs : List T) → length (drawn_of s') ≡ length (drawn_of s) + n
-    → DrawsForAll s s' xs xs
-draws_only_in_place s s' n xs drawn = (n, omega (arith, drawn))
-
-pub draws_after : {A E T : Type 0} (r : Result A E) (s s' s'' : Seat) (n : ℕ) (xs ys : List T)
-    → length (drawn_of s') ≡ length (drawn_of s) + n → OnOk r (DrawsForEach 0 s' s'' xs ys) → OnOk r (DrawsForAll s s'' xs ys)
-draws_after (Ok x) s s' s'' n xs ys drawn each = draws_in_place s s' s'' n xs ys drawn each
-draws_after (Err e) s s' s'' n xs ys drawn each = tt
+-- tickets were drawn only for asyncs in place
+pub draws_only_in_place : {T : Type 0} (s s' : Seat) (n : ℕ) (xs : List T)
+    → length (drawn_of s') ≡ length (drawn_of s) + n → DrawsForEach n s s' xs xs
+draws_only_in_place s s' n xs drawn = omega (arith, drawn)
 
 -- ---- all seats
 

@@ -5,7 +5,7 @@ use Rattle.task_run.specs.Lists.{Each}
 use Rattle.plain_code.specs.Pieces.{IsCodeOfProgram}
 use Rattle.plain_code.specs.declared.pieces.ProgramCode.{ProgramCode}
 use Rattle.task_run.specs.declared.result.TaskResult.{TaskResult as RunResult}
-use Rattle.task_run.specs.Jobs.{outcome_of, program_of}
+use Rattle.task_run.specs.Jobs.{IsJob, outcome_of, program_of}
 use Rattle.task_run.specs.declared.job.Job.{Job}
 use Rattle.weighted_task.specs.Ends.{IsParked}
 use Rattle.weighted_task.specs.Tasks.{IsTask, IsChild, IsResultOf}
@@ -38,6 +38,10 @@ IsNext j Idle = Unit {0}
 IsNext j (Told x) = outcome x ≡ outcome_of j
 
 module _ (o : Option Job) where
+  -- it is right
+  abbrev pub HasJob : Type 0
+  HasJob = (j : Job) → o ≡ Some j → IsJob j
+
   -- the flat code is that of its program
   abbrev pub HasCode : ProgramCode → Type 0
   HasCode code = (j : Job) → o ≡ Some j → IsCodeOfProgram (program_of j) code

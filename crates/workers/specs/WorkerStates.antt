@@ -1,5 +1,5 @@
 -- The seats and reports of workers.
-use Rattle.std.specs.Prelude.{ℕ, ◌≡◌, ◌+◌, ◌≤◌, List, Option, None, Ok, All, length, IfErr, IfOk, IfSome}
+use Rattle.std.specs.Prelude.{ℕ, ◌≡◌, ◌+◌, ◌≤◌, List, Option, None, Some, Ok, All, length, IfErr, IfOk, IfSome}
 use Rattle.types.specs.Translation.{outcome as outcome_in}
 use Rattle.task_run.specs.Jobs.{outcome_of}
 use Rattle.task_run.specs.declared.job.Job.{Job}
@@ -29,9 +29,11 @@ abbrev pub DrawsForEach : {T : Type 0} → (others : ℕ) → (old new : Seat) �
 DrawsForEach others old new before after =
     length (drawn_of new) + length before ≡ length (drawn_of old) + length after + others
 
--- and for each async that it began in place
-abbrev pub DrawsForAll : {T : Type 0} → (old new : Seat) → (before after : List T) → Type 0
-DrawsForAll old new before after = (begun : ℕ) × DrawsForEach begun old new before after
+-- the only worker ran the program on one thread, and drew a ticket for the root and for each async; or
+-- it gave that up, and drew none
+abbrev pub DrawsAlone : (old new : Seat) → Option (Outcome × ℕ) → Type 0
+DrawsAlone old new None = length (drawn_of new) ≡ length (drawn_of old)
+DrawsAlone old new (Some ran) = length (drawn_of new) ≡ length (drawn_of old) + 1 + ran.1
 
 -- the error of a worker with this seat; E2 has a ticket that was drawn there
 pub record Fails (o : Option Job) (t : Tickets) (tasks : ℕ) (s : Seat) (e : RunError) : Type 0 where

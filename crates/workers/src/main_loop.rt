@@ -10,7 +10,7 @@ ghost use Rattle.worker_threads.specs.DequeEnds.{put_into};
 ghost use Rattle.workers.specs.Own.{HasCode, IsOwnBody, IsOwnChild, IsOwnEnded, IsOwnEnding, IsOwnNext};
 ghost use Rattle.workers.specs.Own.{IsOwnLeaving, IsOwnStep, IsOwnTask, IsOwnTurn, IsOwnWhole};
 ghost use Rattle.workers.specs.Causes.{Happens, IsOfResults};
-ghost use Rattle.workers.specs.WorkerStates.{DrawsForAll, DrawsForEach, Fails, HasSeat, Tells};
+ghost use Rattle.workers.specs.WorkerStates.{DrawsAlone, DrawsForEach, Fails, HasSeat, Tells};
 ghost use Rattle.workers.specs.Words.{IsOwnStub};
 
 use crate::code::OwnCode;
@@ -26,7 +26,7 @@ use crate::recorded::Recording;
 use crate::scopes;
 use crate::scopes::ScopeRecorder;
 use crate::settings::Settings;
-use crate::worker::{Report, WorkerAtWork, WorkerParts, WorkerState};
+use crate::worker::{RanTask, Report, WorkerAtWork, WorkerParts, WorkerState};
 use finish_scope::inner::Inner;
 use finish_scope::resting::{Passing, Resting};
 use finish_scope::running::Running;
@@ -77,7 +77,6 @@ pub struct Shared<'p, J: Running, G: Gate> {
     pub log: Option<LockedLog<'p, J>>,
     pub ghost of: { J.job ≡ Some job },
     pub ghost word: { J.word ≡ Some (id_of tickets) },
-    pub ghost ok: { IsJob job },
 }
 
 impl<'p, J: Running + Recording, G: Gate> Shared<'p, J, G> {
@@ -457,24 +456,29 @@ impl<'p, J: Running + Recording, G: Gate> Shared<'p, J, G> {
     }
 
     /// Runs the program on one thread, if there is no other worker and nobody observes the tasks. It
-    /// draws a ticket for the root and for each async. Returns None if the asyncs are too many, or if
-    /// a task is over its budget: on one thread everything stops then, but tasks apart go on.
-    fn run_alone(&self, state: &mut WorkerAtWork<'p>) -> Result<Option<Outcome>, RunError>
+    /// draws a ticket for the root and for each async. Also returns the number of asyncs that were
+    /// begun. Returns None if they are too many, or if a task is over its budget: on one thread
+    /// everything stops then, but tasks apart go on.
+    fn run_alone(&self, state: &mut WorkerAtWork<'p>) -> Result<Option<(Outcome, u64)>, RunError>
+        requires job { IsJob self.now.job }
         requires seat { HasSeat self.now.tickets self.now.settings.tasks state.old.seat }
         ensures seat { OnOk result
             (HasSeat self.now.tickets self.now.settings.tasks state.new.seat) }
         ensures failed { IfErr result
             (Fails J.job self.now.tickets self.now.settings.tasks state.new.seat) }
-        ensures outcome { IfOk result (λ o. IfSome o (λ x. outcome_in x ≡ outcome_of self.now.job)) }
+        ensures outcome { IfOk result
+            (λ o. IfSome o (λ r. outcome_in r.0 ≡ outcome_of self.now.job)) }
+        ensures drawn { IfOk result (DrawsAlone state.old.seat state.new.seat) }
     {
         if self.settings.workers > 1 || J::is_recorded() || G::observes_all() {
             return Ok(None);
         }
         match self.on_one_thread()? {
             None => Ok(None),
-            Some((outcome, begun)) => {
-                self.draw_all(state, begun.saturating_add(1))?;
-                Ok(Some(outcome))
+            Some(ran) => {
+                self.draw(state)?;
+                self.draw_all(state, ran.1)?;
+                Ok(Some(ran))
             }
         }
     }
@@ -482,7 +486,8 @@ impl<'p, J: Running + Recording, G: Gate> Shared<'p, J, G> {
     /// Runs the program on one thread. Returns its outcome and the number of asyncs that were begun,
     /// unless they are too many or the program is stopped.
     fn on_one_thread(&self) -> Result<Option<(Outcome, u64)>, AllocError>
-        ensures { IfOk result (λ r. IfSome r (λ t. outcome_in t.0 ≡ outcome_of self.now.job)) }
+        requires { IsJob self.now.job }
+        ensures { IfOk result (λ o. IfSome o (λ r. outcome_in r.0 ≡ outcome_of self.now.job)) }
     {
         let limit = Most(self.settings.tasks);
         let codes = &self.code.lend().codes;
@@ -528,14 +533,15 @@ impl<'p, J: Running + Recording, G: Gate> Shared<'p, J, G> {
         state: &mut WorkerAtWork<'p>,
         tasks: &mut Tasks<'p, J>,
         ready: Ready<'p, J>,
-    ) -> Result<Option<Outcome>, RunError>
+    ) -> Result<RanTask, RunError>
         requires seat { HasSeat self.now.tickets self.now.settings.tasks state.old.seat }
         ensures seat { OnOk result
             (HasSeat self.now.tickets self.now.settings.tasks state.new.seat) }
         ensures failed { IfErr result
             (Fails J.job self.now.tickets self.now.settings.tasks state.new.seat) }
-        ensures outcome { IfOk result (λ o. IfSome o (λ x. outcome_in x ≡ outcome_of self.now.job)) }
-        ensures drawn { OnOk result (DrawsForAll state.old.seat state.new.seat
+        ensures outcome { IfOk result
+            (λ r. IfSome r.outcome (λ x. outcome_in x ≡ outcome_of self.now.job)) }
+        ensures drawn { IfOk result (λ r. DrawsForEach r.begun state.old.seat state.new.seat
             (put_into tasks.old.own) (put_into tasks.new.own)) }
     {
         let from = ready.from();
@@ -544,7 +550,8 @@ impl<'p, J: Running + Recording, G: Gate> Shared<'p, J, G> {
         if self.may_run_whole(state, is_spare, &child) {
             return self.run_whole(rt, state, tasks, &mut open_scopes, child);
         }
-        self.run_apart(rt, state, tasks, &mut open_scopes, child, from)
+        let outcome = self.run_apart(rt, state, tasks, &mut open_scopes, child, from)?;
+        Ok(RanTask { outcome, begun: 0 })
     }
 
     /// Runs a spawned task from its start, with each task below it apart.
@@ -564,7 +571,7 @@ impl<'p, J: Running + Recording, G: Gate> Shared<'p, J, G> {
         ensures failed { IfErr result
             (Fails J.job self.now.tickets self.now.settings.tasks state.new.seat) }
         ensures outcome { IfOk result (λ o. IfSome o (λ x. outcome_in x ≡ outcome_of self.now.job)) }
-        ensures drawn { OnOk result (DrawsForAll state.old.seat state.new.seat
+        ensures drawn { OnOk result (DrawsForEach 0 state.old.seat state.new.seat
             (put_into tasks.old.own) (put_into tasks.new.own)) }
     {
         let mut log_guard = self.hold(rt);
@@ -595,15 +602,16 @@ impl<'p, J: Running + Recording, G: Gate> Shared<'p, J, G> {
         tasks: &mut Tasks<'p, J>,
         open_scopes: &mut OpenScopes<'p, J>,
         child: Child<'p>,
-    ) -> Result<Option<Outcome>, RunError>
+    ) -> Result<RanTask, RunError>
         requires child { IsOwnChild J.job child }
         requires seat { HasSeat self.now.tickets self.now.settings.tasks state.old.seat }
         ensures seat { OnOk result
             (HasSeat self.now.tickets self.now.settings.tasks state.new.seat) }
         ensures failed { IfErr result
             (Fails J.job self.now.tickets self.now.settings.tasks state.new.seat) }
-        ensures outcome { IfOk result (λ o. IfSome o (λ x. outcome_in x ≡ outcome_of self.now.job)) }
-        ensures drawn { OnOk result (DrawsForAll state.old.seat state.new.seat
+        ensures outcome { IfOk result
+            (λ r. IfSome r.outcome (λ x. outcome_in x ≡ outcome_of self.now.job)) }
+        ensures drawn { IfOk result (λ r. DrawsForEach r.begun state.old.seat state.new.seat
             (put_into tasks.old.own) (put_into tasks.new.own)) }
     {
         let limit = WhileRunning {
@@ -614,21 +622,49 @@ impl<'p, J: Running + Recording, G: Gate> Shared<'p, J, G> {
         match whole::<J, WhileRunning<'_, 'p, J>>(child, code, &limit, &mut state.rooms)? {
             WholeChild::Made(ended, begun) => {
                 self.draw_all(state, begun)?;
-                match self.end(rt, state.number, open_scopes, ended)? {
-                    Next::Goes(task) => self.go_on(rt, state, tasks, open_scopes, task),
-                    Next::Idle => Ok(None),
-                    Next::Told(outcome) => Ok(Some(outcome)),
-                }
+                let outcome = self.end_whole(rt, state, tasks, open_scopes, ended)?;
+                Ok(RanTask { outcome, begun })
             }
             WholeChild::Cut(begun) => {
                 self.draw_all(state, begun)?;
-                Ok(None)
+                Ok(RanTask {
+                    outcome: None,
+                    begun,
+                })
             }
             WholeChild::Again(child) => {
                 state.runs_whole = false;
                 let from = state.number;
-                self.run_apart(rt, state, tasks, open_scopes, child, from)
+                let outcome = self.run_apart(rt, state, tasks, open_scopes, child, from)?;
+                Ok(RanTask { outcome, begun: 0 })
             }
+        }
+    }
+
+    /// Returns the result of a whole task to its scope, and runs any owner that continues because of
+    /// it.
+    fn end_whole<R: Wait>(
+        &self,
+        rt: &R,
+        state: &mut WorkerAtWork<'p>,
+        tasks: &mut Tasks<'p, J>,
+        open_scopes: &mut OpenScopes<'p, J>,
+        ended: Ended<'p>,
+    ) -> Result<Option<Outcome>, RunError>
+        requires ended { IsOwnEnded J.job ended }
+        requires seat { HasSeat self.now.tickets self.now.settings.tasks state.old.seat }
+        ensures seat { OnOk result
+            (HasSeat self.now.tickets self.now.settings.tasks state.new.seat) }
+        ensures failed { IfErr result
+            (Fails J.job self.now.tickets self.now.settings.tasks state.new.seat) }
+        ensures outcome { IfOk result (λ o. IfSome o (λ x. outcome_in x ≡ outcome_of self.now.job)) }
+        ensures drawn { OnOk result (DrawsForEach 0 state.old.seat state.new.seat
+            (put_into tasks.old.own) (put_into tasks.new.own)) }
+    {
+        match self.end(rt, state.number, open_scopes, ended)? {
+            Next::Goes(task) => self.go_on(rt, state, tasks, open_scopes, task),
+            Next::Idle => Ok(None),
+            Next::Told(outcome) => Ok(Some(outcome)),
         }
     }
 
@@ -706,8 +742,9 @@ impl<'p, J: Running + Recording, G: Gate> Shared<'p, J, G> {
     {
         tasks.thieves = self.pool.thieves(self.job.alloc, state.number)?;
         if let Some(first) = first {
-            if let Some(outcome) = self.run_alone(state)? {
-                return Ok(Some(outcome));
+            first.shows_job();
+            if let Some(ran) = self.run_alone(state)? {
+                return Ok(Some(ran.0));
             }
             if let Some(outcome) = self.run_first(rt, state, tasks, first)? {
                 return Ok(Some(outcome));
@@ -719,7 +756,8 @@ impl<'p, J: Running + Recording, G: Gate> Shared<'p, J, G> {
                 return Ok(None);
             }
             if let Some(ready) = self.find_work(rt, state, tasks, &mut looks) {
-                if let Some(outcome) = self.run_next(rt, state, tasks, ready)? {
+                let ran = self.run_next(rt, state, tasks, ready)?;
+                if let Some(outcome) = ran.outcome {
                     return Ok(Some(outcome));
                 }
             }

@@ -1,7 +1,7 @@
 //! Tasks that wait for a worker.
 
 ghost use Rattle.std.specs.Prelude.{◌≡◌};
-ghost use Rattle.workers.specs.Own.{IsOwnChild, IsOwnTask};
+ghost use Rattle.workers.specs.Own.{HasJob, IsOwnChild, IsOwnTask};
 ghost use Rattle.workers.specs.Words.{IsOwnStub};
 
 use crate::open_scopes::OpenScopes;
@@ -119,6 +119,14 @@ impl<'p, J: Running> First<'p, J> {
         requires { IsOwnTask J.job task }
     {
         First { task, open_scopes }
+    }
+
+    /// States that the program of the run is right and has no race, and that the input fits it: the
+    /// root is a task of the run.
+    pub fn shows_job(&self)
+        ensures { HasJob J.job }
+    {
+        let _root = &self.task;
     }
 
     /// Returns the task before its first turn, and its scopes. Its ticket is used up; only the

@@ -41,6 +41,15 @@ pub struct WorkerAtWork<'p> {
     pub runs_whole: bool,
 }
 
+/// What came of a task that a worker took.
+#[derive(Drop)]
+pub struct RanTask {
+    /// The outcome of the run, if the task led to it.
+    pub outcome: Option<Outcome>,
+    /// The number of asyncs that were begun in place.
+    pub begun: u64,
+}
+
 /// A worker's report.
 #[derive(Drop)]
 pub struct Report {

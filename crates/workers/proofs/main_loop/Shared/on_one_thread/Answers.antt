@@ -16,8 +16,8 @@ serial_within-requires g c =
     let shared = c.args.self.now in
     let same = sym c.plan.ensures.program in
     record {
-      sound = subst IsSound same shared.ok.sound;
-      fits = subst (λ (p : Program). FitsArrays p.arrays (input shared.job.input.now)) same shared.ok.fits;
+      sound = subst IsSound same c.requires.sound;
+      fits = subst (λ (p : Program). FitsArrays p.arrays (input shared.job.input.now)) same c.requires.fits;
       codes =
           subst (λ (p : Program). AreCodes p c.deref.result.now) same
           (subst (λ (fs : List Flat). AreCodes (program_of shared.job) fs) (sym c.deref.ensures.value)
