@@ -1,14 +1,14 @@
 //! The second run.
 
 ghost use Rattle.std.specs.Prelude.{◌≡◌, length, map, take, IfOk};
-ghost use Rattle.types.specs.Contents.{FitsArrays};
-ghost use Rattle.types.specs.Outcome.{Ending, outcome as one_thread_outcome, outcome_by};
+ghost use Rattle.types.specs.Inputs.{IsInput};
+ghost use Rattle.types.specs.Outcome.{Ending, outcome_by};
 ghost use Rattle.types.specs.Translation.{fault as fault_of, input as lists_in};
 ghost use Rattle.types.specs.Translation.{budget as budget_of};
 ghost use Rattle.types.specs.Typed.{code_of};
 ghost use Rattle.statement_steps.specs.Standing.{flow as flow_of, state_of};
-ghost use Rattle.cost.specs.Kept.{outcome_at, printed};
-ghost use Rattle.run_explanations.specs.Seen.{OnlyIfStopped, faults_at, faults_by, faults_of};
+ghost use Rattle.cost.specs.Kept.{outcome_at};
+ghost use Rattle.run_explanations.specs.Seen.{OnlyIfStopped, Sees, faults_at, faults_by};
 
 use crate::notes::{MOST_FAULTS, RunNotes, TaskLimit};
 use crate::seen::{Overrun, SeenRun, SurplusTask};
@@ -29,29 +29,35 @@ use types::typed::Typed;
 const MOST_LINES: usize = 10;
 
 /// Runs a program on one thread, with each async's body in place. Returns what was seen. The faults
-/// are those of the one-thread outcome, and a stopped run has none. The input has a list for each
-/// array, of its length.
+/// are those of the one-thread outcome, and a stopped run has none. With an input that doesn't fit,
+/// no run starts, and nothing is seen.
 pub fn seen_again(
     alloc: Global,
     typed: &Typed,
     input: &Input,
     budget: Budget,
 ) -> Result<SeenRun, AllocError>
-    requires { FitsArrays (code_of typed.now).arrays (lists_in input.now) }
-    ensures faults { IfOk result (λ s. map fault_of s.faults.items ≡ take 4 (faults_of
-        (one_thread_outcome (code_of typed.now) (lists_in input.now) (budget_of budget)))) }
-    ensures many { IfOk result (λ s. s.many ≡ length (faults_of
-        (one_thread_outcome (code_of typed.now) (lists_in input.now) (budget_of budget)))) }
-    ensures overrun { IfOk result (λ s. OnlyIfStopped
-        (one_thread_outcome (code_of typed.now) (lists_in input.now) (budget_of budget)) s.overrun) }
-    ensures lines { IfOk result (λ s. map (λ line. line.items) s.lines.items
-        ≡ take 10 (printed (code_of typed.now) (lists_in input.now) (budget_of budget))) }
-    ensures printed { IfOk result (λ s. s.printed
-        ≡ length (printed (code_of typed.now) (lists_in input.now) (budget_of budget))) }
+    ensures { IsInput (code_of typed.now).arrays (lists_in input.now)
+        → IfOk result (Sees (code_of typed.now) (lists_in input.now) (budget_of budget)) }
 {
+    if !input.fits(typed) {
+        return Ok(nothing_seen(alloc));
+    }
     let mut notes = RunNotes::new(alloc);
     let thread = kept(alloc, typed, input, budget, &mut notes)?;
     Ok(seen_at_end(alloc, thread, notes))
+}
+
+/// Returns what is seen if no run starts.
+fn nothing_seen(alloc: Global) -> SeenRun {
+    SeenRun {
+        faults: Vec::new(alloc),
+        notes: Vec::new(alloc),
+        many: 0,
+        overrun: None,
+        lines: Vec::new(alloc),
+        printed: 0,
+    }
 }
 
 /// Returns what was seen of a run that is at its end.
@@ -104,16 +110,18 @@ fn overrun_left(flow: Flow, overrun: Option<Overrun>) -> Option<Overrun>
     }
 }
 
-/// Runs a program as `seen_again` does, and returns the statements at which its tasks took steps.
+/// Runs a program as `seen_again` does, and returns the statements at which its tasks took steps:
+/// none with an input that doesn't fit.
 pub fn steps_again(
     alloc: Global,
     typed: &Typed,
     input: &Input,
     budget: Budget,
-) -> Result<TaskSteps, AllocError>
-    requires { FitsArrays (code_of typed.now).arrays (lists_in input.now) }
-{
+) -> Result<TaskSteps, AllocError> {
     let mut steps = TaskSteps::new(alloc);
+    if !input.fits(typed) {
+        return Ok(steps);
+    }
     let _thread = kept(alloc, typed, input, budget, &mut steps)?;
     Ok(steps)
 }
@@ -122,16 +130,17 @@ pub fn steps_again(
 const MOST_TURNS: u64 = 4_000_000;
 
 /// Runs a program on one thread, up to the async that starts one task more than there may be.
-/// Returns None if the run ends before, or takes too long.
+/// Returns None if the run ends before, or takes too long, or if the input doesn't fit.
 pub fn surplus_task(
     alloc: Global,
     typed: &Typed,
     input: &Input,
     budget: Budget,
     tasks: u64,
-) -> Result<Option<SurplusTask>, AllocError>
-    requires { FitsArrays (code_of typed.now).arrays (lists_in input.now) }
-{
+) -> Result<Option<SurplusTask>, AllocError> {
+    if !input.fits(typed) {
+        return Ok(None);
+    }
     let plan = Plan {
         alloc,
         program: typed.code(),

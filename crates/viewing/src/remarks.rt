@@ -1,7 +1,6 @@
 //! `view --by-line`: the procedure and the statement of each step of a trace.
 
 ghost use Rattle.std.specs.Prelude.{◌≡◌, slice_index};
-ghost use Rattle.commands.specs.Outcomes.{Fits};
 ghost use Rattle.viewing.specs.Views.{remark_at};
 
 use crate::statements::labels_of;
@@ -22,9 +21,7 @@ pub struct Remarks {
 
 impl Remarks {
     /// Finds the statements at the events of a trace of a text's program.
-    pub fn of(alloc: Global, text: &str, judged: &JudgedTrace) -> Result<Remarks, AllocError>
-        requires { Fits judged.now.given.accepted.typed judged.now.given.input }
-    {
+    pub fn of(alloc: Global, text: &str, judged: &JudgedTrace) -> Result<Remarks, AllocError> {
         Ok(Remarks {
             labels: labels_of(alloc, judged)?,
             texts: texts_of(alloc, text, judged.given.accepted.typed())?,
@@ -90,9 +87,11 @@ fn begins_by(body: &[Stmt], label: Label) -> bool {
 
 /// Returns the number of steps of each statement of a trace, one per line:
 /// `6:7 label 3: steps 4  a[0] = 7;`.
-pub fn steps_by_line(alloc: Global, text: &str, judged: &JudgedTrace) -> Result<String, AllocError>
-    requires { Fits judged.now.given.accepted.typed judged.now.given.input }
-{
+pub fn steps_by_line(
+    alloc: Global,
+    text: &str,
+    judged: &JudgedTrace,
+) -> Result<String, AllocError> {
     let program = judged.given.accepted.typed().program();
     let statements = NamedStatements::of(alloc, text, program)?;
     let labels = labels_of(alloc, judged)?;

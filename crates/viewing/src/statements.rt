@@ -1,7 +1,5 @@
 //! The statements at the events of a trace, and its rescues.
 
-ghost use Rattle.commands.specs.Outcomes.{Fits};
-
 use crate::traces::JudgedTrace;
 use events::event::Event;
 use excerpts::statements::PlacedStatements;
@@ -38,9 +36,7 @@ pub fn statements_of(
     alloc: Global,
     text: &str,
     judged: &JudgedTrace,
-) -> Result<EventStatements, AllocError>
-    requires { Fits judged.now.given.accepted.typed judged.now.given.input }
-{
+) -> Result<EventStatements, AllocError> {
     let mut steps = steps_of(alloc, judged)?;
     let events = &judged.trace.events;
     Ok(EventStatements {
@@ -51,17 +47,13 @@ pub fn statements_of(
 }
 
 /// Finds the label of the statement at each event of a trace, or 0.
-pub fn labels_of(alloc: Global, judged: &JudgedTrace) -> Result<Vec<Label>, AllocError>
-    requires { Fits judged.now.given.accepted.typed judged.now.given.input }
-{
+pub fn labels_of(alloc: Global, judged: &JudgedTrace) -> Result<Vec<Label>, AllocError> {
     let mut steps = steps_of(alloc, judged)?;
     labels_at(alloc, &judged.trace.events, &mut steps)
 }
 
 /// Runs the program of a trace again, and returns the steps of its tasks.
-fn steps_of(alloc: Global, judged: &JudgedTrace) -> Result<TaskSteps, AllocError>
-    requires { Fits judged.now.given.accepted.typed judged.now.given.input }
-{
+fn steps_of(alloc: Global, judged: &JudgedTrace) -> Result<TaskSteps, AllocError> {
     let given = &judged.given;
     let budget = judged.trace.header.budget;
     steps_again(alloc, given.accepted.typed(), &given.input, budget)

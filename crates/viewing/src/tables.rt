@@ -4,7 +4,6 @@ ghost use Rattle.std.specs.Prelude.{◌≡◌, ◌++◌, codes, map, IfOk, OnOk}
 ghost use Rattle.std.specs.Str.Lines.{lines as lines_in};
 ghost use Rattle.std.specs.String.{string_bytes};
 ghost use Rattle.command_line.specs.Requests.{settings as settings_of};
-ghost use Rattle.commands.specs.Outcomes.{Fits};
 ghost use Rattle.viewing.specs.Views.{IsSummaryByLine, IsSummaryText, IsTableByLine, TellsTrace, Views};
 ghost use Rattle.viewing.specs.Views.{command_by, remark_at, remarked as lines_remarked};
 
@@ -55,7 +54,6 @@ pub fn view<R: Threads + Sync, F: FileSource, O: Write>(
 
 /// Returns the text of this part of a trace of a text's program.
 fn shown(alloc: Global, look: Look, text: &str, judged: &JudgedTrace) -> Result<String, AllocError>
-    requires { Fits judged.now.given.accepted.typed judged.now.given.input }
     ensures { IfOk result (λ told. TellsTrace (command_by look)
         judged.now.trace.header judged.now.trace.events.items (string_bytes told)) }
 {
@@ -69,7 +67,6 @@ fn shown(alloc: Global, look: Look, text: &str, judged: &JudgedTrace) -> Result<
 
 /// Returns the table of events, with the procedure and the statement of each step.
 fn table_by_line(alloc: Global, text: &str, judged: &JudgedTrace) -> Result<String, AllocError>
-    requires { Fits judged.now.given.accepted.typed judged.now.given.input }
     ensures { IfOk result (λ told. IsTableByLine judged.now.trace.events.items (string_bytes told)) }
 {
     let remarks = Remarks::of(alloc, text, judged)?;
@@ -119,7 +116,6 @@ fn joined(first: String, second: &str) -> Result<String, AllocError>
 
 /// Returns the text of the numbers of a trace, and then the number of steps of each statement.
 fn numbers_by_line(alloc: Global, text: &str, judged: &JudgedTrace) -> Result<String, AllocError>
-    requires { Fits judged.now.given.accepted.typed judged.now.given.input }
     ensures { IfOk result (λ told. IsSummaryByLine judged.now.trace.header.workers
         judged.now.trace.events.items (string_bytes told)) }
 {
