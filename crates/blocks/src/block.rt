@@ -81,7 +81,7 @@ impl Block {
             Block::WholeOwned(whole) => write_whole(alloc, whole, offset, value),
             Block::Owned(numbers) => write_in(alloc, numbers, offset, value),
             Block::Mixed(mixed) => Ok(mixed.write(offset, value)),
-            Block::WholeShared(_) | Block::Empty | Block::Shared(_) => Ok(false),
+            Block::Empty | Block::Shared(_) | Block::WholeShared(_) => Ok(false),
         }
     }
 

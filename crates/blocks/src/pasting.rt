@@ -24,8 +24,8 @@ impl Block {
         ensures room { OnOk result (CanTake self.new other.now) }
     {
         match other {
-            Block::WholeShared(_) | Block::Empty | Block::Shared(_) => Ok(()),
-            Block::WholeOwned(_) | Block::Owned(_) | Block::Mixed(_) => {
+            Block::Empty | Block::Shared(_) | Block::WholeShared(_) => Ok(()),
+            Block::Owned(_) | Block::WholeOwned(_) | Block::Mixed(_) => {
                 // A block that is open has the room already, or gets it without a look at its numbers.
                 if !self.is_open() && self.is_within(other) {
                     return Ok(());
@@ -65,11 +65,11 @@ impl Block {
     {
         match self {
             Block::Mixed(mixed) => mixed.take(other),
-            Block::WholeOwned(_)
-            | Block::WholeShared(_)
-            | Block::Empty
+            Block::Empty
             | Block::Owned(_)
-            | Block::Shared(_) => 0,
+            | Block::Shared(_)
+            | Block::WholeOwned(_)
+            | Block::WholeShared(_) => 0,
         }
     }
 
@@ -77,11 +77,11 @@ impl Block {
     fn is_open(&self) -> bool {
         match self {
             Block::Mixed(_) => true,
-            Block::WholeOwned(_)
-            | Block::WholeShared(_)
-            | Block::Empty
+            Block::Empty
             | Block::Owned(_)
-            | Block::Shared(_) => false,
+            | Block::Shared(_)
+            | Block::WholeOwned(_)
+            | Block::WholeShared(_) => false,
         }
     }
 
@@ -112,8 +112,8 @@ impl Block {
         ensures { IsTrue result → HasAll from to (owned_at self.now) }
     {
         match self {
-            Block::WholeOwned(_) | Block::Owned(_) => self.owns_all(from, to),
-            Block::WholeShared(_) | Block::Empty | Block::Shared(_) | Block::Mixed(_) => false,
+            Block::Owned(_) | Block::WholeOwned(_) => self.owns_all(from, to),
+            Block::Empty | Block::Shared(_) | Block::WholeShared(_) | Block::Mixed(_) => false,
         }
     }
 
@@ -122,7 +122,7 @@ impl Block {
         ensures { Agree (held_at result) (λ k. option_map Owned (owned_at self k)) }
     {
         match self {
-            Block::WholeShared(_) | Block::Empty | Block::Shared(_) => Block::Empty,
+            Block::Empty | Block::Shared(_) | Block::WholeShared(_) => Block::Empty,
             Block::WholeOwned(whole) => Block::WholeOwned(whole),
             Block::Owned(numbers) => Block::Owned(numbers),
             Block::Mixed(mut mixed) => {

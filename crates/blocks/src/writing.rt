@@ -43,7 +43,7 @@ impl Block {
                 None => false,
             },
             Block::Mixed(mixed) => mixed.write(offset, value),
-            Block::WholeOwned(_) | Block::WholeShared(_) | Block::Empty | Block::Shared(_) => false,
+            Block::Empty | Block::Shared(_) | Block::WholeOwned(_) | Block::WholeShared(_) => false,
         }
     }
 
