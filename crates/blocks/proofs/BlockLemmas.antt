@@ -1,16 +1,15 @@
 -- What blocks hold, own and have room for.
-use Rattle.std.proofs.Common.{◌≡◌, ℕ, zero, suc, ◌+◌, ◌-◌, ◌<◌, ◌≤◌, List, length, Option, Some, None, Bool, true, false, refl, sym, ap, ◌∙◌, arith, rules, subst, ◌⊎◌, inl, inr}
-use Rattle.std.proofs.lemmas.Bool.{leb-true, leb-false, ltb-true}
+use Rattle.std.proofs.Common.{◌≡◌, ℕ, zero, suc, ◌+◌, ◌-◌, ◌<◌, ◌≤◌, List, length, Option, Some, None, true, refl, sym, ap, ◌∙◌, arith, subst, ◌⊎◌, inl, inr}
 use Rattle.std.specs.Arc.{arc_value}
 use Rattle.std.specs.Box.{box_value}
 use Rattle.std.specs.declared.alloc.Global.{Global}
 use Rattle.std.specs.declared.boxed.Box.{Box}
 use Rattle.std.specs.declared.sync.Arc.{Arc}
 use Rattle.blocks.specs.Counts.{how_many}
-use Rattle.std.specs.Prelude.{ℤ, pos, is_some, nat_le, nat_lt, option_map, unwrap_or, if◌then◌else◌}
+use Rattle.std.specs.Prelude.{ℤ, pos, is_some, option_map}
 use Rattle.blocks.specs.Numbers.{number_in, row_from, whole_at}
-use Rattle.blocks.specs.Blocks.{held_as, held_at, kind_of, owned_at}
-use Rattle.blocks.specs.Held.{Held, Owned, Shared, first_of, number_of, owned_number}
+use Rattle.blocks.specs.Blocks.{held_at, owned_at}
+use Rattle.blocks.specs.Held.{Held, Owned, Shared, first_of, owned_number}
 use Rattle.blocks.specs.Offsets.{Offsets, Agree, HasAll, IsWithin, in_range}
 use Rattle.blocks.specs.Numbers.{IsAsWide, ReachOver}
 use Rattle.blocks.specs.Ready.{IsReady, room_at}
@@ -174,15 +173,14 @@ whole-owned b from to lt a is =
     )
 
 -- a test whether a whole block holds a range
-pub whole-held : (b : Block) (from to : ℕ) → from < to
-    → ((a : Arc Whole Global) × (b ≡ WholeOwned a)) ⊎ ((a : Arc Whole Global) × (b ≡ WholeShared a))
+pub whole-held : (b : Block) (from to : ℕ) → from < to → (a : Arc Whole Global) → (b ≡ WholeOwned a) ⊎ (b ≡ WholeShared a)
     → (to ≤ 256 → HasAll from to (held_at b)) × (HasAll from to (held_at b) → to ≤ 256)
-whole-held b from to lt (inl (a, is)) =
+whole-held b from to lt a (inl is) =
     let w = whole-all (arc_value a) from to lt in (
       λ le k t none. option_map-there Owned (whole_at (arc_value a) k) (w.0 le k t) (sym (ap (λ x. held_at x k) is) ∙ none),
       λ all. w.1 (λ k t none. all k t (ap (λ x. held_at x k) is ∙ option_map-none Owned (whole_at (arc_value a) k) none)),
     )
-whole-held b from to lt (inr (a, is)) =
+whole-held b from to lt a (inr is) =
     let w = whole-all (arc_value a) from to lt in (
       λ le k t none. option_map-there Shared (whole_at (arc_value a) k) (w.0 le k t) (sym (ap (λ x. held_at x k) is) ∙ none),
       λ all. w.1 (λ k t none. all k t (ap (λ x. held_at x k) is ∙ option_map-none Shared (whole_at (arc_value a) k) none)),

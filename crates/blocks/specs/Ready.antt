@@ -1,5 +1,5 @@
 -- Blocks that can be changed without memory.
-use Rattle.std.specs.Prelude.{ℕ, ◌≡◌, ◌⊎◌, ℤ, Option, Some, None}
+use Rattle.std.specs.Prelude.{ℕ, ◌≡◌, ◌⊎◌, ℤ, None}
 use Rattle.std.specs.Box.{box_value}
 use Rattle.blocks.specs.Numbers.{number_in}
 use Rattle.blocks.specs.Blocks.{held_at, owned_at}
