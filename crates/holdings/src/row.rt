@@ -76,7 +76,8 @@ impl BlockRow {
         ensures { result ≡ unwrap_or (option_map number_of
             (held_of (block_in self.now (self.now.first + at / 256)) (at % 256))) (pos 0) }
     {
-        self.blocks[at / PLACES].number(at % PLACES).unwrap_or(0)
+        let block = &self.blocks[at / PLACES];
+        block.number(at % PLACES).unwrap_or(0)
     }
 
     /// Writes the number at this distance from the first place of the row if it is owned and that
