@@ -88,7 +88,8 @@ impl Arrays for TaskMemory {
     ) -> Result<i64, FaultKind> {
         let span = spans[section];
         if index >= 0 && (index as usize) < span.len {
-            return Ok(self.holdings.number_at(span.row, span.at + index as usize));
+            let at = span.at + index as usize;
+            return Ok(self.holdings.number_at(span.row, at));
         }
         self.get_apart(windows[section], index)
     }
@@ -96,19 +97,18 @@ impl Arrays for TaskMemory {
     #[inline(always)]
     fn set(
         &mut self,
-        windows: &[Window],
+        _windows: &[Window],
         spans: &[Span],
         section: usize,
         index: i64,
         value: i64,
     ) -> bool {
         let span = spans[section];
-        if index >= 0 && (index as usize) < span.len {
-            return self
-                .holdings
-                .set_at(span.row, span.at + index as usize, value);
+        if index < 0 || (index as usize) >= span.len {
+            return false;
         }
-        self.set_apart(windows[section], index, value)
+        let at = span.at + index as usize;
+        self.holdings.set_at(span.row, at, value)
     }
 
     #[inline(never)]
@@ -131,11 +131,8 @@ impl Arrays for TaskMemory {
 
 impl TaskMemory {
     ghost use Rattle.std.specs.Prelude.{◌+◌, ◌≤◌, ◌*◌, IfErr, Ok};
-    ghost use Rattle.std.specs.Bool.{OnFalse, OnTrue};
     ghost use Rattle.types.specs.Value.{element_of, then_try};
     ghost use Rattle.task_run.specs.Spans.{IsWhere};
-    ghost use Rattle.task_run.specs.TaskKind.{task_kind};
-    ghost use Rattle.serial_run.specs.Writes.{WritesElement};
     ghost use Rattle.holdings.specs.declared.error.HoldError.TheVariants.{OutOfMemory};
 
     /// Returns where the elements of a window are: side by side in the blocks of its array, or
@@ -166,21 +163,6 @@ impl TaskMemory {
         match window.place(index) {
             None => Err(FaultKind::Index),
             Some(place) => Ok(self.holdings.number(place)),
-        }
-    }
-
-    /// Does what `set` does, kept out of the fast path for windows whose elements are found.
-    #[inline(never)]
-    fn set_apart(&mut self, window: Window, index: i64, value: i64) -> bool
-        ensures written { OnTrue result
-            (WritesElement task_kind (window_of window) index value self.old self.new) }
-        ensures same { OnFalse result
-            (contents_of self.new.holdings ≡ contents_of self.old.holdings) }
-        ensures owned { owned_by self.new.holdings ≡ owned_by self.old.holdings }
-    {
-        match window.place(index) {
-            None => false,
-            Some(place) => self.holdings.set(place, value),
         }
     }
 
