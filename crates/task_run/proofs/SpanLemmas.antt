@@ -1,8 +1,10 @@
 -- Where a task has the elements of windows.
 use Rattle.std.proofs.Common.{◌≡◌, ℕ, ◌+◌, ◌*◌, ◌<◌, List, [], ◌∷◌, ◌++◌, length, Some, None, Bool, true, false, refl, sym, ap, ap₂, ◌∙◌, arith, subst, ◌⊎◌, inl, inr}
 use Rattle.std.proofs.lemmas.Bool.{eqb-true, lt-ltb}
-use Rattle.std.proofs.lemmas.Option.{same_Some}
-use Rattle.std.specs.Prelude.{nat_eq, nat_lt, pos, slice_get, slice_index_or, if◌then◌else◌}
+use Rattle.std.proofs.Common.{w64, to_z, of_z, FitsSigned}
+use Rattle.std.proofs.lemmas.Int.{to_z-of_z}
+use Rattle.std.proofs.lemmas.Option.{same_Some, slice_get-get_or}
+use Rattle.std.specs.Prelude.{ℤ, int_lt, nat_abs, nat_eq, nat_lt, negsuc, pos, slice_get, slice_index_or, if◌then◌else◌}
 use Rattle.sections.specs.Place.{Place, Window, place_in}
 use Rattle.sections.specs.Translation.{window}
 use Rattle.sections.specs.declared.window.Window.{Window as rWindow}
@@ -50,6 +52,30 @@ span_element h w s i (inr f) lt =
     let index : w.at + i ≡ begins_at (slice_get rs s.row) + (s.at + i) = omega (arith, begins, f.lies.begins) in
     ap (λ b. if b then Some (record { array = w.array; index = w.at + i }) else None) (lt-ltb i w.length inside)
     ∙ ap₂ (λ a j. Some (record { array = a; index = j })) (sym f.row) index
+
+-- the distance of an element is a number of the machine
+pub span_fits : (h : Holdings) (w : Window) (s : Span) (i : ℕ) → IsWhere h w s → i < s.len → s.at + i < 4194304
+span_fits h w s i (inl none) lt = absurd (omega (arith, none, lt))
+span_fits h w s i (inr f) lt = omega (arith, f.lies.reaches, f.all, f.lies.row.within, lt)
+
+-- the span of a section, as it was read
+pub span_at : (h : Holdings) (ws : List rWindow) (ss : List Span) (section : ℕ) (d : Span) → AreWhere h ws ss → section < length ws
+    → IsWhere h (windowed ws section) (slice_index_or ss section d)
+span_at h ws ss section d are lt =
+    are.each section (slice_index_or ss section d) (slice_get-get_or ss section d (omega (arith, are.as_many, lt)))
+
+-- an index that isn't negative
+pub as_index : (z : ℤ) → int_lt z (pos 0) ≡ false → pos (nat_abs z) ≡ z
+as_index (pos n) e = refl
+as_index (negsuc n) e = absurd (cc)
+
+-- the place of an element, by its index
+pub placed : (h : Holdings) (w : Window) (s : Span) (z : ℤ) → FitsSigned w64 z → int_lt (to_z w64 (of_z w64 z)) (pos 0) ≡ false
+    → IsWhere h w s → nat_abs (to_z w64 (of_z w64 z)) < s.len
+    → place_in w z ≡ Some (place_at h.rows.list.items s.row (s.at + nat_abs (to_z w64 (of_z w64 z))))
+placed h w s z fits low is lt =
+    ap (place_in w) (sym (to_z-of_z w64 z fits) ∙ sym (as_index (to_z w64 (of_z w64 z)) low))
+    ∙ span_element h w s (nat_abs (to_z w64 (of_z w64 z))) is lt
 
 -- ---- rows that begin and end where they did
 

@@ -87,11 +87,11 @@ impl Arrays for TaskMemory {
         index: i64,
     ) -> Result<i64, FaultKind> {
         let span = spans[section];
-        if index >= 0 && (index as usize) < span.len {
-            let at = span.at + index as usize;
-            return Ok(self.holdings.number_at(span.row, at));
+        if index < 0 || (index as usize) >= span.len {
+            return self.get_apart(windows[section], index);
         }
-        self.get_apart(windows[section], index)
+        let at = span.at + index as usize;
+        Ok(self.holdings.number_at(span.row, at))
     }
 
     #[inline(always)]

@@ -1,16 +1,14 @@
-use Rattle.std.proofs.Common.{◌≡◌, ap, ◌∙◌, w64}
-use Rattle.std.specs.Bool.{OnFalse, OnTrue}
-use Rattle.std.specs.Prelude.{ℤ, Bool, IsSome, true, false}
-use Rattle.sections.specs.Place.{Place}
-use Rattle.holdings.specs.Held.{Held, Map, Owned, owned, put}
-use Rattle.task_run.proofs.HeldPlaces.{owned-put, owns}
-use Rattle.task_run.proofs.memory.TaskMemoryArrays.set.Goals as goal
+pub overflow_add-at : goal.overflow_add-at
+overflow_add-at c = ?
 
--- the set of owned places is unchanged, whether the place was written or not
-stays_owned : (b : Bool) (q : Place) (v : ℤ) (old new : Map Held) → OnTrue b (new ≡ put q (Owned v) old)
-    → OnTrue b (IsSome (owned old q)) → OnFalse b (new ≡ old) → owns new ≡ owns old
-stays_owned true q v old new written there same = ap owns written ∙ owned-put q v old there
-stays_owned false q v old new written there same = ap owns same
+pub set_at-requires : goal.set_at-requires
+set_at-requires c =
+    let h = c.args.self.now.holdings in let ws = c.args._windows.now in
+    in_span h _ _ (nat_abs (to_z w64 (of_z w64 c.args.index))) (span_at h ws c.args.spans.now c.args.section _ c.requires.finds c.requires.section)
+    c.if-index-span.false
 
 pub returns-clause-written : goal.returns-clause-written
 returns-clause-written c = ?
+
+pub returns-clause-shape : goal.returns-clause-shape
+returns-clause-shape c = ?
