@@ -59,6 +59,18 @@ impl Block {
     pub fn number(&self, offset: usize) -> Option<i64>
         ensures { result ≡ number_at self.now offset }
     {
+        if let Block::WholeOwned(whole) | Block::WholeShared(whole) = self {
+            return whole.number(offset);
+        }
+        self.number_apart(offset)
+    }
+
+    /// Does the same as `number`, kept out of the fast path for whole blocks: a jump by the kind of
+    /// the block would cost more than the access.
+    #[inline(never)]
+    fn number_apart(&self, offset: usize) -> Option<i64>
+        ensures { result ≡ number_at self.now offset }
+    {
         match self {
             Block::WholeOwned(whole) | Block::WholeShared(whole) => whole.number(offset),
             Block::Empty => None,

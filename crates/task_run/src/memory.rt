@@ -88,7 +88,7 @@ impl Arrays for TaskMemory {
     ) -> Result<i64, FaultKind> {
         let span = spans[section];
         if index < 0 || (index as usize) >= span.len {
-            return self.get_apart(windows[section], index);
+            return self.get_apart(windows, section, index);
         }
         let at = span.at + index as usize;
         Ok(self.holdings.number_at(span.row, at))
@@ -130,7 +130,8 @@ impl Arrays for TaskMemory {
 }
 
 impl TaskMemory {
-    ghost use Rattle.std.specs.Prelude.{◌+◌, ◌≤◌, ◌*◌, IfErr, Ok};
+    ghost use Rattle.std.specs.Prelude.{◌<◌, IfErr, Ok, length};
+    ghost use Rattle.serial_run.specs.Runs.{windowed};
     ghost use Rattle.types.specs.Value.{element_of, then_try};
     ghost use Rattle.task_run.specs.Spans.{IsWhere};
     ghost use Rattle.holdings.specs.declared.error.HoldError.TheVariants.{OutOfMemory};
@@ -156,11 +157,12 @@ impl TaskMemory {
 
     /// Does what `get` does, kept out of the fast path for windows whose elements are found.
     #[inline(never)]
-    fn get_apart(&self, window: Window, index: i64) -> Result<i64, FaultKind>
-        ensures { result ≡ then_try (element_of (window_of window) index)
+    fn get_apart(&self, windows: &[Window], section: usize, index: i64) -> Result<i64, FaultKind>
+        requires { section < length windows.now }
+        ensures { result ≡ then_try (element_of (windowed windows.now section) index)
             (λ q. Ok (read_of (contents_of self.now.holdings) q)) }
     {
-        match window.place(index) {
+        match windows[section].place(index) {
             None => Err(FaultKind::Index),
             Some(place) => Ok(self.holdings.number(place)),
         }
