@@ -1,24 +1,25 @@
 -- What blocks hold, own and have room for.
-use Rattle.std.proofs.Common.{◌≡◌, ℕ, zero, suc, ◌+◌, ◌-◌, ◌<◌, ◌≤◌, List, length, Option, Some, None, Bool, true, false, refl, sym, ap, ◌∙◌, arith, rules, subst, ◌⊎◌, inl, inr}
-use Rattle.std.proofs.lemmas.Bool.{leb-true, leb-false, ltb-true}
+use Rattle.std.proofs.Common.{◌≡◌, ℕ, zero, suc, ◌+◌, ◌-◌, ◌<◌, ◌≤◌, List, length, Option, Some, None, true, refl, sym, ap, ◌∙◌, arith, subst, ◌⊎◌, inl, inr}
 use Rattle.std.specs.Arc.{arc_value}
 use Rattle.std.specs.Box.{box_value}
 use Rattle.std.specs.declared.alloc.Global.{Global}
 use Rattle.std.specs.declared.boxed.Box.{Box}
 use Rattle.std.specs.declared.sync.Arc.{Arc}
 use Rattle.blocks.specs.Counts.{how_many}
-use Rattle.std.specs.Prelude.{ℤ, pos, is_some, nat_le, nat_lt, option_map, unwrap_or, if◌then◌else◌}
-use Rattle.blocks.specs.Numbers.{number_in, row_from}
-use Rattle.blocks.specs.Blocks.{held_as, held_at, kind_of, owned_at}
-use Rattle.blocks.specs.Held.{Held, Owned, Shared, first_of, number_of, owned_number}
+use Rattle.std.specs.Prelude.{ℤ, pos, is_some, option_map}
+use Rattle.blocks.specs.Numbers.{number_in, row_from, whole_at}
+use Rattle.blocks.specs.Blocks.{held_at, owned_at}
+use Rattle.blocks.specs.Held.{Held, Owned, Shared, first_of, owned_number}
 use Rattle.blocks.specs.Offsets.{Offsets, Agree, HasAll, IsWithin, in_range}
 use Rattle.blocks.specs.Numbers.{IsAsWide, ReachOver}
 use Rattle.blocks.specs.Ready.{IsReady, room_at}
 use Rattle.blocks.specs.declared.block.Block.{Block}
 use Rattle.blocks.specs.declared.block.Block.TheVariants.{Empty, Mixed as InParts, Owned as AllOwned, Shared as AllShared}
+use Rattle.blocks.specs.declared.block.Block.TheVariants.{WholeOwned, WholeShared}
 use Rattle.blocks.specs.declared.mixed.Mixed.{Mixed}
 use Rattle.blocks.specs.declared.cut.Cut.{Cut}
 use Rattle.blocks.specs.declared.numbers.Numbers.{Numbers}
+use Rattle.blocks.specs.declared.whole.Whole.{Whole}
 use Rattle.blocks.proofs.RowLemmas.{row_from-before, row_from-behind, row_from-in, row_from-there}
 use Rattle.blocks.proofs.KindLemmas.{held_row-none}
 use Rattle.blocks.proofs.WalkLemmas.{how_many-none, how_many-rest, how_many-some, in_range-true, in_range-low, in_range-high}
@@ -149,6 +150,42 @@ reach-held b n from to lt a e (inr is) =
       λ all. w.1 (λ k t none. all k t (ap (λ x. held_at x k) is ∙ option_map-none Shared (number_in (arc_value a) k) none)),
     )
 
+-- the numbers of all offsets cover each range of offsets
+whole-all : (w : Whole) (from to : ℕ) → from < to
+    → (to ≤ 256 → HasAll from to (whole_at w)) × (HasAll from to (whole_at w) → to ≤ 256)
+whole-all w from to lt = (
+  λ le k e none. absurd (let high = in_range-high from to k e in
+      let f = sym (row_from-in 0 w.numbers k (pos 0) (omega arith) (omega (arith, le, high, w.full))) ∙ none in cc),
+  λ all. let last : from ≤ to - 1 = omega (arith, lt) in
+      let end : to - 1 < to = omega (arith, lt) in
+      let b = row_from-there 0 w.numbers (to - 1) (all (to - 1) (in_range-true from to (to - 1) last end)) in
+      omega (arith, b.1, lt, w.full),
+)
+
+-- a test whether a whole block that is owned owns a range
+pub whole-owned : (b : Block) (from to : ℕ) → from < to → (a : Arc Whole Global) → b ≡ WholeOwned a
+    → (to ≤ 256 → HasAll from to (owned_at b)) × (HasAll from to (owned_at b) → to ≤ 256)
+whole-owned b from to lt a is =
+    let w = whole-all (arc_value a) from to lt in
+    let same : (k : ℕ) → owned_at b k ≡ whole_at (arc_value a) k = λ k. ap (λ x. owned_at x k) is ∙ owned_number-owned (whole_at (arc_value a) k) in (
+      λ le k t none. w.0 le k t (sym (same k) ∙ none),
+      λ all. w.1 (λ k t none. all k t (same k ∙ none)),
+    )
+
+-- a test whether a whole block holds a range
+pub whole-held : (b : Block) (from to : ℕ) → from < to → (a : Arc Whole Global) → (b ≡ WholeOwned a) ⊎ (b ≡ WholeShared a)
+    → (to ≤ 256 → HasAll from to (held_at b)) × (HasAll from to (held_at b) → to ≤ 256)
+whole-held b from to lt a (inl is) =
+    let w = whole-all (arc_value a) from to lt in (
+      λ le k t none. option_map-there Owned (whole_at (arc_value a) k) (w.0 le k t) (sym (ap (λ x. held_at x k) is) ∙ none),
+      λ all. w.1 (λ k t none. all k t (ap (λ x. held_at x k) is ∙ option_map-none Owned (whole_at (arc_value a) k) none)),
+    )
+whole-held b from to lt a (inr is) =
+    let w = whole-all (arc_value a) from to lt in (
+      λ le k t none. option_map-there Shared (whole_at (arc_value a) k) (w.0 le k t) (sym (ap (λ x. held_at x k) is) ∙ none),
+      λ all. w.1 (λ k t none. all k t (ap (λ x. held_at x k) is ∙ option_map-none Shared (whole_at (arc_value a) k) none)),
+    )
+
 -- a block with kinds that holds a range has numbers there
 pub reach-mixed : (b : Block) (m : Mixed) (x : Box Mixed Global) (from to : ℕ) → from < to → m ≡ box_value x → b ≡ InParts x
     → HasAll from to (held_at b) → ReachOver m.numbers from to
@@ -174,11 +211,15 @@ row_from-wider first xs start ys low high k some none =
     absurd (let f = sym (row_from-in start ys k (pos 0) (omega (arith, low, w.0)) (omega (arith, high, w.1))) ∙ none in cc)
 
 -- a block without kinds has no room
-pub no_room : (b : Block) → (b ≡ Empty) ⊎ (((x : Arc Numbers Global) × (b ≡ AllOwned x)) ⊎ ((x : Arc Numbers Global) × (b ≡ AllShared x)))
+pub no_room : (b : Block)
+    → (b ≡ Empty) ⊎ (((x : Arc Numbers Global) × (b ≡ AllOwned x)) ⊎ (((x : Arc Numbers Global) × (b ≡ AllShared x))
+    ⊎ (((w : Arc Whole Global) × (b ≡ WholeOwned w)) ⊎ ((w : Arc Whole Global) × (b ≡ WholeShared w)))))
     → (k : ℕ) → room_at b k ≡ None
 no_room b (inl e) k = ap (λ c. room_at c k) e
 no_room b (inr (inl (x, e))) k = ap (λ c. room_at c k) e
-no_room b (inr (inr (x, e))) k = ap (λ c. room_at c k) e
+no_room b (inr (inr (inl (x, e)))) k = ap (λ c. room_at c k) e
+no_room b (inr (inr (inr (inl (w, e))))) k = ap (λ c. room_at c k) e
+no_room b (inr (inr (inr (inr (w, e))))) k = ap (λ c. room_at c k) e
 
 -- ---- cuts that stay ready
 
@@ -202,7 +243,12 @@ IsReady-along b c f t cut same room ready = record {
 numbers-behind : (n : Numbers) (k : ℕ) → 256 ≤ k → number_in n k ≡ None
 numbers-behind n k le = row_from-behind n.first n.list.items k (omega (arith, n.within, le))
 
+whole_at-behind : (w : Whole) (k : ℕ) → 256 ≤ k → whole_at w k ≡ None
+whole_at-behind w k le = row_from-behind 0 w.numbers k (omega (arith, w.full, le))
+
 pub held_at-behind : (b : Block) (k : ℕ) → 256 ≤ k → held_at b k ≡ None
+held_at-behind (WholeOwned a) k le = ap (option_map Owned) (whole_at-behind (arc_value a) k le)
+held_at-behind (WholeShared a) k le = ap (option_map Shared) (whole_at-behind (arc_value a) k le)
 held_at-behind Empty k le = refl
 held_at-behind (AllOwned a) k le = ap (option_map Owned) (numbers-behind (arc_value a) k le)
 held_at-behind (AllShared a) k le = ap (option_map Shared) (numbers-behind (arc_value a) k le)

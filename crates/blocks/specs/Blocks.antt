@@ -3,11 +3,11 @@ use Rattle.std.specs.Prelude.{◌-◌, get_or, ℤ, Option, Some, None, option_m
 use Rattle.std.specs.Arc.{arc_value}
 use Rattle.std.specs.Box.{box_value}
 use Rattle.blocks.specs.Held.{Held, Owned, Shared, owned_number, number_of}
-use Rattle.blocks.specs.Numbers.{number_in}
+use Rattle.blocks.specs.Numbers.{number_in, whole_at}
 use Rattle.blocks.specs.Offsets.{Offsets}
 use Rattle.blocks.specs.declared.block.Block.{Block}
 use Rattle.blocks.specs.declared.block.Block.TheVariants.{Empty, Mixed as InParts}
-use Rattle.blocks.specs.declared.block.Block.TheVariants.{Owned as AllOwned, Shared as AllShared}
+use Rattle.blocks.specs.declared.block.Block.TheVariants.{Owned as AllOwned, Shared as AllShared, WholeOwned, WholeShared}
 use Rattle.blocks.specs.declared.kind.HeldAs.{HeldAs}
 use Rattle.blocks.specs.declared.kind.HeldAs.TheVariants.{Absent, Own, Copied}
 use Rattle.blocks.specs.declared.mixed.Mixed.{Mixed}
@@ -30,6 +30,8 @@ held_in m k = held_as (get_or m.kinds.items (k - m.numbers.first) Absent) (numbe
 
 -- what a block holds: at some offsets a number and its kind
 abbrev pub held_at : Block → Offsets Held
+held_at (WholeOwned w) k = option_map Owned (whole_at (arc_value w) k)
+held_at (WholeShared w) k = option_map Shared (whole_at (arc_value w) k)
 held_at Empty k = None
 held_at (AllOwned n) k = option_map Owned (number_in (arc_value n) k)
 held_at (AllShared n) k = option_map Shared (number_in (arc_value n) k)

@@ -1,16 +1,18 @@
 -- Blocks that can be changed without memory.
-use Rattle.std.specs.Prelude.{ℕ, ◌≡◌, ◌⊎◌, ℤ, Option, Some, None}
+use Rattle.std.specs.Prelude.{ℕ, ◌≡◌, ◌⊎◌, ℤ, None}
 use Rattle.std.specs.Box.{box_value}
 use Rattle.blocks.specs.Numbers.{number_in}
 use Rattle.blocks.specs.Blocks.{held_at, owned_at}
 use Rattle.blocks.specs.Offsets.{Offsets, HasAll, HasOnly, IsWithin}
 use Rattle.blocks.specs.declared.block.Block.{Block}
 use Rattle.blocks.specs.declared.block.Block.TheVariants.{Empty, Mixed as InParts}
-use Rattle.blocks.specs.declared.block.Block.TheVariants.{Owned as AllOwned, Shared as AllShared}
+use Rattle.blocks.specs.declared.block.Block.TheVariants.{Owned as AllOwned, Shared as AllShared, WholeOwned, WholeShared}
 use Rattle.blocks.specs.declared.cut.Cut.{Cut}
 
 -- where a block has its own room for numbers, held or not
 abbrev pub room_at : Block → Offsets ℤ
+room_at (WholeOwned w) k = None
+room_at (WholeShared w) k = None
 room_at Empty k = None
 room_at (AllOwned n) k = None
 room_at (AllShared n) k = None

@@ -62,7 +62,11 @@ impl Block {
         self.open(alloc, from, to)?;
         match self {
             Block::Mixed(mixed) => Ok(mixed.take_range(other, from, to)),
-            Block::Empty | Block::Owned(_) | Block::Shared(_) => unreachable!(),
+            Block::Empty
+            | Block::Owned(_)
+            | Block::Shared(_)
+            | Block::WholeOwned(_)
+            | Block::WholeShared(_) => unreachable!(),
         }
     }
 }

@@ -2,12 +2,13 @@
 
 ghost use Rattle.std.specs.Prelude.{◌≡◌, IfOk, IsTrue, None, OnErr, false, is_some};
 ghost use Rattle.std.specs.Arc.{arc_value};
-ghost use Rattle.blocks.specs.Numbers.{number_in};
+ghost use Rattle.blocks.specs.Numbers.{number_in, whole_at};
 ghost use Rattle.blocks.specs.Offsets.{Agree, put_at};
 
 use crate::kind::HeldAs;
 use crate::mixed::Mixed;
 use crate::numbers::{Numbers, PLACES};
+use crate::whole::Whole;
 use std::alloc::{AllocError, Global};
 use std::sync::Arc;
 
@@ -15,11 +16,15 @@ use std::sync::Arc;
 /// from the first one.
 #[derive(Drop)]
 pub enum Block {
+    /// The numbers of all places, owned. Copies of them may share the memory.
+    WholeOwned(Arc<Whole>),
+    /// Copies of the numbers of all places.
+    WholeShared(Arc<Whole>),
     /// Nothing.
     Empty,
-    /// Numbers that are all owned. Copies of them may share the memory.
+    /// Numbers of some places, all owned. Copies of them may share the memory.
     Owned(Arc<Numbers>),
-    /// Copies.
+    /// Copies of the numbers of some places.
     Shared(Arc<Numbers>),
     /// Different kinds at different offsets.
     Mixed(Box<Mixed>),
@@ -41,6 +46,9 @@ impl Block {
         ensures { IfOk result (λ b.
             Agree (held_at b) (λ k. option_map Owned (slice_get numbers.now k))) }
     {
+        if numbers.len() == PLACES {
+            return Ok(Block::WholeOwned(Whole::of_numbers(alloc, numbers)?));
+        }
         let list = Vec::from_slice(alloc, numbers)?;
         let numbers = Arc::new(alloc, Numbers { first: 0, list })?;
         Ok(Block::Owned(numbers))
@@ -51,7 +59,20 @@ impl Block {
     pub fn number(&self, offset: usize) -> Option<i64>
         ensures { result ≡ number_at self.now offset }
     {
+        if let Block::WholeOwned(whole) | Block::WholeShared(whole) = self {
+            return whole.number(offset);
+        }
+        self.number_apart(offset)
+    }
+
+    /// Does the same as `number`, kept out of the fast path for whole blocks: a jump by the kind of
+    /// the block would cost more than the access.
+    #[inline(never)]
+    fn number_apart(&self, offset: usize) -> Option<i64>
+        ensures { result ≡ number_at self.now offset }
+    {
         match self {
+            Block::WholeOwned(whole) | Block::WholeShared(whole) => whole.number(offset),
             Block::Empty => None,
             Block::Owned(numbers) | Block::Shared(numbers) => numbers.number(offset),
             Block::Mixed(mixed) => mixed.number(offset),
@@ -69,9 +90,10 @@ impl Block {
         ensures owned { OnErr result (owned_at self.old offset ≡ None → ⊥) }
     {
         match self {
+            Block::WholeOwned(whole) => write_whole(alloc, whole, offset, value),
             Block::Owned(numbers) => write_in(alloc, numbers, offset, value),
             Block::Mixed(mixed) => Ok(mixed.write(offset, value)),
-            Block::Empty | Block::Shared(_) => Ok(false),
+            Block::Empty | Block::Shared(_) | Block::WholeShared(_) => Ok(false),
         }
     }
 
@@ -79,6 +101,9 @@ impl Block {
     pub fn owns_all(&self, from: usize, to: usize) -> bool
         ensures { IsTrue result ↔ HasAll from to (owned_at self.now) }
     {
+        if let Block::WholeOwned(_) = self {
+            return from >= to || to <= PLACES;
+        }
         if let Block::Owned(numbers) = self {
             return from >= to || numbers.reach_over(from, to);
         }
@@ -94,6 +119,9 @@ impl Block {
     pub fn holds_all(&self, from: usize, to: usize) -> bool
         ensures { IsTrue result ↔ HasAll from to (held_at self.now) }
     {
+        if let Block::WholeOwned(_) | Block::WholeShared(_) = self {
+            return from >= to || to <= PLACES;
+        }
         if let Block::Owned(numbers) | Block::Shared(numbers) = self {
             return from >= to || numbers.reach_over(from, to);
         }
@@ -136,6 +164,8 @@ impl Block {
         ensures { IfOk result (λ b. Agree (held_at b) (held_at self.now)) }
     {
         match self {
+            Block::WholeOwned(whole) => Ok(Block::WholeOwned(Arc::try_clone(whole)?)),
+            Block::WholeShared(whole) => Ok(Block::WholeShared(Arc::try_clone(whole)?)),
             Block::Empty => Ok(Block::Empty),
             Block::Owned(numbers) => Ok(Block::Owned(Arc::try_clone(numbers)?)),
             Block::Shared(numbers) => Ok(Block::Shared(Arc::try_clone(numbers)?)),
@@ -154,6 +184,12 @@ impl Block {
         ensures { IfOk result (λ b. Agree (held_at b)
             (λ k. option_map Shared (inside from to (number_at self.now) k))) }
     {
+        if let Block::WholeOwned(whole) | Block::WholeShared(whole) = self
+            && from == 0
+            && to == PLACES
+        {
+            return Ok(Block::WholeShared(Arc::try_clone(whole)?));
+        }
         if let Block::Owned(numbers) | Block::Shared(numbers) = self
             && from <= numbers.first
             && numbers.end() <= to
@@ -169,6 +205,14 @@ impl Block {
         ensures { result ≡ kind_of (held_at self.now offset) }
     {
         match self {
+            Block::WholeOwned(whole) => match whole.number(offset) {
+                None => HeldAs::Absent,
+                Some(_) => HeldAs::Own,
+            },
+            Block::WholeShared(whole) => match whole.number(offset) {
+                None => HeldAs::Absent,
+                Some(_) => HeldAs::Copied,
+            },
             Block::Empty => HeldAs::Absent,
             Block::Owned(numbers) => match numbers.number(offset) {
                 None => HeldAs::Absent,
@@ -219,6 +263,7 @@ impl Block {
         ensures places { result ≤ 256 }
     {
         match self {
+            Block::WholeOwned(_) | Block::WholeShared(_) => 0,
             Block::Empty => PLACES,
             Block::Owned(numbers) | Block::Shared(numbers) => numbers.first,
             Block::Mixed(mixed) => mixed.numbers.first,
@@ -232,6 +277,7 @@ impl Block {
         ensures places { result ≤ 256 }
     {
         match self {
+            Block::WholeOwned(_) | Block::WholeShared(_) => PLACES,
             Block::Empty => 0,
             Block::Owned(numbers) | Block::Shared(numbers) => numbers.end(),
             Block::Mixed(mixed) => mixed.numbers.end(),
@@ -273,11 +319,40 @@ impl Block {
         ensures copied { IfOk result (λ r. r.1 ≡ to - from) }
     {
         match self {
+            Block::WholeOwned(whole) | Block::WholeShared(whole) => whole.part(alloc, from, to),
             Block::Empty => unreachable!(),
             Block::Owned(numbers) | Block::Shared(numbers) => numbers.part(alloc, from, to),
             Block::Mixed(mixed) => mixed.numbers.part(alloc, from, to),
         }
     }
+}
+
+/// Writes the number at an offset of a whole block. If others share the numbers, they are copied
+/// first.
+#[inline(never)]
+fn write_whole(
+    alloc: Global,
+    shared: &mut Arc<Whole>,
+    offset: usize,
+    value: i64,
+) -> Result<bool, AllocError>
+    ensures found { IfOk result (λ f. f ≡ is_some (whole_at (arc_value shared.old) offset)) }
+    ensures written { IfOk result (λ f. IsTrue f → Agree (whole_at (arc_value shared.new))
+        (put_at offset value (whole_at (arc_value shared.old)))) }
+    ensures missed { IfOk result (λ f. (f ≡ false) → arc_value shared.new ≡ arc_value shared.old) }
+    ensures same { OnErr result (arc_value shared.new ≡ arc_value shared.old) }
+    ensures there { OnErr result (whole_at (arc_value shared.old) offset ≡ None → ⊥) }
+{
+    if let Some(whole) = Arc::get_mut(shared) {
+        return Ok(whole.write(offset, value));
+    }
+    if shared.number(offset).is_none() {
+        return Ok(false);
+    }
+    let mut whole = shared.copied();
+    let found = whole.write(offset, value);
+    *shared = Arc::new(alloc, whole)?;
+    Ok(found)
 }
 
 /// Writes the number at an offset. If others share the numbers, they are copied first.

@@ -10,4 +10,5 @@ pub mod mixed;
 pub mod numbers;
 mod opening;
 mod pasting;
+pub mod whole;
 mod writing;

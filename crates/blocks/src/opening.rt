@@ -5,6 +5,7 @@ use crate::cut::Cut;
 use crate::kind::HeldAs;
 use crate::mixed::Mixed;
 use crate::numbers::Numbers;
+use crate::whole::Whole;
 use std::alloc::{AllocError, Global};
 use std::mem;
 use std::sync::Arc;
@@ -109,6 +110,8 @@ impl Block {
         ensures room { OnErr result (IsWithin (room_at self.old) (room_at self.new)) }
     {
         match self {
+            Block::WholeOwned(shared) => take_all(alloc, shared, HeldAs::Own),
+            Block::WholeShared(shared) => take_all(alloc, shared, HeldAs::Copied),
             Block::Empty => Ok(Mixed::from_offset(alloc, from)),
             Block::Owned(shared) => take_numbers(alloc, shared, HeldAs::Own),
             Block::Shared(shared) => take_numbers(alloc, shared, HeldAs::Copied),
@@ -119,9 +122,18 @@ impl Block {
 
 ghost use Rattle.std.specs.Prelude.{◌≡◌, IfOk, OnErr};
 ghost use Rattle.std.specs.Arc.{arc_value};
-ghost use Rattle.blocks.specs.Numbers.{number_in};
+ghost use Rattle.blocks.specs.Numbers.{number_in, whole_at};
 ghost use Rattle.blocks.specs.Offsets.{Agree};
 ghost use Rattle.blocks.specs.Blocks.{held_as, held_in};
+
+/// Copies the numbers of a whole block, which are all of one kind.
+fn take_all(alloc: Global, shared: &Whole, kind: HeldAs) -> Result<Mixed, AllocError>
+    ensures { IfOk result (λ m. Agree (held_in m) (λ k. held_as kind (whole_at shared.now k))) }
+{
+    let numbers = shared.listed(alloc)?;
+    let kinds = vec![in alloc; kind; numbers.list.len()]?;
+    Ok(Mixed { numbers, kinds })
+}
 
 /// Takes numbers of one kind out of memory that can be shared. If others share them, they are
 /// copied first, as before a write.

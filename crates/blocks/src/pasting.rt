@@ -3,7 +3,8 @@
 use crate::block::Block;
 use crate::kind::HeldAs;
 use crate::mixed::Mixed;
-use crate::numbers::Numbers;
+use crate::numbers::{Numbers, PLACES};
+use crate::whole::Whole;
 use std::alloc::{AllocError, Global};
 use std::mem;
 use std::sync::Arc;
@@ -23,8 +24,8 @@ impl Block {
         ensures room { OnOk result (CanTake self.new other.now) }
     {
         match other {
-            Block::Empty | Block::Shared(_) => Ok(()),
-            Block::Owned(_) | Block::Mixed(_) => {
+            Block::Empty | Block::Shared(_) | Block::WholeShared(_) => Ok(()),
+            Block::Owned(_) | Block::WholeOwned(_) | Block::Mixed(_) => {
                 // A block that is open has the room already, or gets it without a look at its numbers.
                 if !self.is_open() && self.is_within(other) {
                     return Ok(());
@@ -64,7 +65,11 @@ impl Block {
     {
         match self {
             Block::Mixed(mixed) => mixed.take(other),
-            Block::Empty | Block::Owned(_) | Block::Shared(_) => 0,
+            Block::Empty
+            | Block::Owned(_)
+            | Block::Shared(_)
+            | Block::WholeOwned(_)
+            | Block::WholeShared(_) => 0,
         }
     }
 
@@ -72,7 +77,11 @@ impl Block {
     fn is_open(&self) -> bool {
         match self {
             Block::Mixed(_) => true,
-            Block::Empty | Block::Owned(_) | Block::Shared(_) => false,
+            Block::Empty
+            | Block::Owned(_)
+            | Block::Shared(_)
+            | Block::WholeOwned(_)
+            | Block::WholeShared(_) => false,
         }
     }
 
@@ -103,8 +112,8 @@ impl Block {
         ensures { IsTrue result → HasAll from to (owned_at self.now) }
     {
         match self {
-            Block::Owned(_) => self.owns_all(from, to),
-            Block::Empty | Block::Shared(_) | Block::Mixed(_) => false,
+            Block::Owned(_) | Block::WholeOwned(_) => self.owns_all(from, to),
+            Block::Empty | Block::Shared(_) | Block::WholeShared(_) | Block::Mixed(_) => false,
         }
     }
 
@@ -113,7 +122,8 @@ impl Block {
         ensures { Agree (held_at result) (λ k. option_map Owned (owned_at self k)) }
     {
         match self {
-            Block::Empty | Block::Shared(_) => Block::Empty,
+            Block::Empty | Block::Shared(_) | Block::WholeShared(_) => Block::Empty,
+            Block::WholeOwned(whole) => Block::WholeOwned(whole),
             Block::Owned(numbers) => Block::Owned(numbers),
             Block::Mixed(mut mixed) => {
                 mixed.drop_copies();
@@ -131,6 +141,12 @@ impl Block {
             return;
         };
         if !mixed.owns_everything() {
+            return;
+        }
+        if mixed.numbers.list.len() == PLACES {
+            if let Ok(whole) = Whole::of_numbers(alloc, &mixed.numbers.list) {
+                *self = Block::WholeOwned(whole);
+            }
             return;
         }
         let Mixed { numbers, kinds } = mem::replace(&mut **mixed, Mixed::nothing(alloc));

@@ -20,16 +20,16 @@ impl Block {
         ensures owned { OnTrue result (IsSome (owned_at self.old offset)) }
         ensures same { OnFalse result (Agree (held_at self.new) (held_at self.old)) }
     {
-        if let Block::Owned(numbers) = self {
-            return match Arc::get_mut(numbers) {
-                Some(numbers) => numbers.write(offset, value),
+        if let Block::WholeOwned(whole) = self {
+            return match Arc::get_mut(whole) {
+                Some(whole) => whole.write(offset, value),
                 None => false,
             };
         }
         self.set_apart(offset, value)
     }
 
-    /// Does the same as `set`, kept out of the fast path for numbers that are all owned.
+    /// Does the same as `set`, kept out of the fast path for whole blocks.
     #[inline(never)]
     fn set_apart(&mut self, offset: usize, value: i64) -> bool
         ensures written { OnTrue result
@@ -38,8 +38,12 @@ impl Block {
         ensures same { OnFalse result (Agree (held_at self.new) (held_at self.old)) }
     {
         match self {
+            Block::Owned(numbers) => match Arc::get_mut(numbers) {
+                Some(numbers) => numbers.write(offset, value),
+                None => false,
+            },
             Block::Mixed(mixed) => mixed.write(offset, value),
-            Block::Empty | Block::Owned(_) | Block::Shared(_) => false,
+            Block::Empty | Block::Shared(_) | Block::WholeOwned(_) | Block::WholeShared(_) => false,
         }
     }
 

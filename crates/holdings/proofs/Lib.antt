@@ -17,6 +17,7 @@ pub mod PastedLemmas
 pub mod PieceLemmas
 pub mod PresenceLemmas
 pub mod PuttingLemmas
+pub mod ReachLemmas
 pub mod RoomLemmas
 pub mod RowLemmas
 pub mod SharingLemmas

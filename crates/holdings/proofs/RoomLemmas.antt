@@ -10,7 +10,7 @@ use Rattle.blocks.specs.Held.{AreApart, owned, owned_number}
 use Rattle.blocks.specs.Offsets.{StandApart}
 use Rattle.blocks.specs.Ready.{CanTake}
 use Rattle.blocks.specs.declared.block.Block.{Block}
-use Rattle.blocks.specs.declared.block.Block.TheVariants.{Empty, Mixed, Owned as AllOwned, Shared as AllShared}
+use Rattle.blocks.specs.declared.block.Block.TheVariants.{Empty, Mixed, Owned as AllOwned, Shared as AllShared, WholeOwned, WholeShared}
 use Rattle.blocks.proofs.BlockLemmas.{held_at-behind}
 use Rattle.blocks.proofs.RowLemmas.{row_from-before, row_from-behind, row_from-in}
 use Rattle.holdings.specs.Rooms.{HasAllRoom, HasRoom, HasRowRoom, TakesIn}
@@ -35,6 +35,8 @@ takes-kept own new i j theirs kept t = record { mine = t.mine; there = kept (ap 
 
 pub room-kept : (own new : List BlockRow) (i j : ℕ) (theirs : Block) → (IsSome (block_of own i j) → block_of new i j ≡ block_of own i j)
     → HasRoom own i j theirs → HasRoom new i j theirs
+room-kept own new i j (WholeOwned w) kept h = takes-kept own new i j (WholeOwned w) kept h
+room-kept own new i j (WholeShared w) kept h = h
 room-kept own new i j Empty kept h = h
 room-kept own new i j (AllShared n) kept h = h
 room-kept own new i j (AllOwned n) kept h = takes-kept own new i j (AllOwned n) kept h
@@ -49,6 +51,8 @@ room-elsewhere a b s own new rep i j theirs e h =
     room-kept own new i j theirs (λ some. replaced-there a b s own new rep i j e) h
 
 pub room-from : (rs : List BlockRow) (a b : ℕ) (mine theirs : Block) → block_of rs a b ≡ Some mine → CanTake mine theirs → HasRoom rs a b theirs
+room-from rs a b mine (WholeOwned w) is can = record { mine = mine; there = is; room = can }
+room-from rs a b mine (WholeShared w) is can = tt
 room-from rs a b mine Empty is can = tt
 room-from rs a b mine (AllShared n) is can = tt
 room-from rs a b mine (AllOwned n) is can = record { mine = mine; there = is; room = can }

@@ -5,6 +5,7 @@ pub mod Errors
 pub mod Holdings
 pub mod Lists
 pub mod Pieces
+pub mod Reach
 pub mod Rooms
 pub mod Rows
 pub mod Wanted

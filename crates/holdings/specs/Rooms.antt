@@ -2,7 +2,7 @@
 use Rattle.std.specs.Prelude.{ℕ, ◌≡◌, ⊤, List, Some}
 use Rattle.blocks.specs.Ready.{CanTake}
 use Rattle.blocks.specs.declared.block.Block.{Block}
-use Rattle.blocks.specs.declared.block.Block.TheVariants.{Empty, Mixed, Owned, Shared}
+use Rattle.blocks.specs.declared.block.Block.TheVariants.{Empty, Mixed, Owned, Shared, WholeOwned, WholeShared}
 use Rattle.holdings.specs.Rows.{block_in, block_of}
 use Rattle.holdings.specs.declared.row.BlockRow.{BlockRow}
 
@@ -14,6 +14,8 @@ pub record TakesIn (rs : List BlockRow) (a b : ℕ) (theirs : Block) : Type 0 wh
 
 -- rows have room for what a block with this number owns
 abbrev pub HasRoom : List BlockRow → (array block : ℕ) → (theirs : Block) → Type 0
+HasRoom rs a b (WholeOwned w) = TakesIn rs a b (WholeOwned w)
+HasRoom rs a b (WholeShared w) = ⊤
 HasRoom rs a b Empty = ⊤
 HasRoom rs a b (Shared n) = ⊤
 HasRoom rs a b (Owned n) = TakesIn rs a b (Owned n)

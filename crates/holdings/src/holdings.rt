@@ -19,10 +19,10 @@ pub struct Holdings {
 }
 
 impl Holdings {
-    ghost use Rattle.std.specs.Prelude.{◌≡◌, ◌<◌, ◌↔◌, IfErr, IfOk, IsSome, IsTrue, None, OnErr, OnOk};
+    ghost use Rattle.std.specs.Prelude.{◌≡◌, ◌<◌, ◌↔◌, ℕ, IfErr, IfOk, IfSome, IsSome, IsTrue, None, OnErr, OnOk};
     ghost use Rattle.std.specs.Prelude.{is_some, map, ok_or};
     ghost use Rattle.std.specs.Bool.{OnFalse, OnTrue};
-    ghost use Rattle.sections.specs.Place.{Place as PlainPlace};
+    ghost use Rattle.sections.specs.Place.{Place as PlainPlace, Window as PlainWindow};
     ghost use Rattle.sections.specs.Covers.{has};
     ghost use Rattle.sections.specs.Translation.{place as place_of, window as window_of};
     ghost use Rattle.blocks.specs.Held.{AreApart, IsJustAt, IsThere, Owned, as_owned, as_shared};
@@ -30,6 +30,7 @@ impl Holdings {
     ghost use Rattle.holdings.specs.Copied.{CopiesSplit, CountsCarve, CountsPaste};
     ghost use Rattle.holdings.specs.Holdings.{held, listed};
     ghost use Rattle.holdings.specs.Errors.{RefusesPlaces, RefusesOwned};
+    ghost use Rattle.holdings.specs.Reach.{LiesFrom, ReachesTo, place_at};
     ghost use Rattle.types.specs.Contents.{FitsArrays, read as read_of, row as row_of};
     ghost use Rattle.types.specs.Translation.{input as lists_in};
     ghost use Rattle.types.specs.Typed.{code_of};
@@ -79,6 +80,41 @@ impl Holdings {
         ensures { result ≡ read_of (numbers (held self.now)) (place_of place) }
     {
         self.rows.number(place).unwrap_or(0)
+    }
+
+    /// Returns how far a window's first place is from the first place for which there is a block of
+    /// its array, if there are blocks for all of the window.
+    pub fn distance(&self, window: Window) -> Option<usize>
+        ensures { IfSome result (λ at. LiesFrom self.now.rows.list.items (window_of window) at) }
+    {
+        self.rows.distance(window)
+    }
+
+    /// Returns the number of an element of a window, by its distance, or 0 if nothing is held there.
+    #[inline(always)]
+    pub fn number_at(&self, array: usize, at: usize) -> i64
+        requires { ReachesTo self.now.rows.list.items array at }
+        ensures { result ≡ read_of (numbers (held self.now))
+            (place_at self.now.rows.list.items array at) }
+    {
+        self.rows.number_at(array, at)
+    }
+
+    /// Writes the number of an element of a window, by its distance, if it is owned and that needs no
+    /// memory, and returns whether it did. What is at a distance stays there.
+    #[inline(always)]
+    pub fn set_at(&mut self, array: usize, at: usize, value: i64) -> bool
+        requires { ReachesTo self.old.rows.list.items array at }
+        ensures written { OnTrue result (held self.new
+            ≡ put (place_at self.old.rows.list.items array at) (Owned value) (held self.old)) }
+        ensures owned { OnTrue result
+            (IsSome (owned (held self.old) (place_at self.old.rows.list.items array at))) }
+        ensures unchanged { OnFalse result (held self.new ≡ held self.old) }
+        ensures copied { self.new.copied ≡ self.old.copied }
+        ensures lies { (w : PlainWindow) (d : ℕ) → LiesFrom self.old.rows.list.items w d
+            → LiesFrom self.new.rows.list.items w d }
+    {
+        self.rows.set_at(array, at, value)
     }
 
     /// Returns the first numbers of an array, with 0 where nothing is held.

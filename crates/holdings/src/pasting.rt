@@ -58,11 +58,13 @@ impl BlockRows {
     {
         match theirs {
             // Copies will be dropped.
-            Block::Empty | Block::Shared(_) => true,
-            Block::Owned(_) | Block::Mixed(_) => match self.block(array, number) {
-                None => true,
-                Some(mine) => mine.is_apart(theirs),
-            },
+            Block::Empty | Block::Shared(_) | Block::WholeShared(_) => true,
+            Block::Owned(_) | Block::WholeOwned(_) | Block::Mixed(_) => {
+                match self.block(array, number) {
+                    None => true,
+                    Some(mine) => mine.is_apart(theirs),
+                }
+            }
         }
     }
 
@@ -104,8 +106,8 @@ impl BlockRows {
             → nat_eq i array && nat_eq j number ≡ false → HasRoom self.new.list.items i j b }
     {
         match theirs {
-            Block::Empty | Block::Shared(_) => Ok(()),
-            Block::Owned(_) | Block::Mixed(_) => {
+            Block::Empty | Block::Shared(_) | Block::WholeShared(_) => Ok(()),
+            Block::Owned(_) | Block::WholeOwned(_) | Block::Mixed(_) => {
                 self.make_room(array, number)?;
                 let mut mine = self.swap(array, number, Block::Empty);
                 let room = mine.make_room(self.alloc, theirs);
@@ -179,7 +181,7 @@ impl BlockRows {
             → nat_eq i array && nat_eq j number ≡ false → HasRoom self.new.list.items i j b }
     {
         match theirs {
-            Block::Empty | Block::Shared(_) => 0,
+            Block::Empty | Block::Shared(_) | Block::WholeShared(_) => 0,
             theirs => {
                 let mut mine = self.swap(array, number, Block::Empty);
                 let copied = mine.paste(self.alloc, theirs);

@@ -125,8 +125,10 @@ fn owns_only(array: usize, number: usize, block: &Block, windows: &[Window]) -> 
         ↔ StandsIn (has (map window_of windows.now)) array number (owned_at block.now) }
 {
     match block {
-        Block::Empty | Block::Shared(_) => true,
-        Block::Owned(_) | Block::Mixed(_) => owns_only_in(array, number, block, windows),
+        Block::Empty | Block::Shared(_) | Block::WholeShared(_) => true,
+        Block::Owned(_) | Block::WholeOwned(_) | Block::Mixed(_) => {
+            owns_only_in(array, number, block, windows)
+        }
     }
 }
 

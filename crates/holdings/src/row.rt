@@ -3,6 +3,7 @@
 ghost use Rattle.std.specs.Prelude.{◌≤◌, ◌+◌, length};
 
 use blocks::block::Block;
+use blocks::numbers::PLACES;
 use std::alloc::{AllocError, Global};
 use std::mem;
 
@@ -15,10 +16,11 @@ pub struct BlockRow {
 }
 
 impl BlockRow {
-    ghost use Rattle.std.specs.Prelude.{◌≡◌, ◌<◌, ◌&&◌, ℕ, IfOk, IsSome, IsTrue, OnErr, OnOk, Some, None};
+    ghost use Rattle.std.specs.Prelude.{◌≡◌, ◌<◌, ◌≤◌, ◌*◌, ◌/◌, ◌%◌, ◌&&◌, ℕ, IfOk, IfSome, IsSome, IsTrue};
+    ghost use Rattle.std.specs.Prelude.{OnErr, OnOk, Some, None, option_map, pos, unwrap_or};
     ghost use Rattle.std.specs.Prelude.{false, slice_get, is_some, nat_eq, option_copied, if◌then◌else◌, ◌↔◌};
     ghost use Rattle.std.specs.Bool.{OnFalse, OnTrue};
-    ghost use Rattle.blocks.specs.Held.{Owned, in_place_of, owned_number};
+    ghost use Rattle.blocks.specs.Held.{Owned, in_place_of, number_of, owned_number};
     ghost use Rattle.holdings.specs.Rows.{block_in, held_of, IsAsBefore};
 
     /// Returns a row without blocks.
@@ -50,6 +52,52 @@ impl BlockRow {
             return None;
         }
         self.blocks.get(number - self.first)
+    }
+
+    /// Returns how far the first of some neighbouring places of the array is from the first place of
+    /// the row, if the row has blocks for all of them.
+    pub fn distance(&self, from: usize, len: usize) -> Option<usize>
+        requires { from + len ≤ 4194304 }
+        ensures { IfSome result (λ at. (256 * self.now.first + at ≡ from)
+            × (at + len ≤ 256 * length self.now.blocks.items)) }
+    {
+        let before = self.first * PLACES;
+        if from < before || from + len > before + self.blocks.len() * PLACES {
+            return None;
+        }
+        Some(from - before)
+    }
+
+    /// Returns the number at this distance from the first place of the row, or 0 if nothing is held
+    /// there.
+    #[inline(always)]
+    pub fn number_at(&self, at: usize) -> i64
+        requires { at < 256 * length self.now.blocks.items }
+        ensures { result ≡ unwrap_or (option_map number_of
+            (held_of (block_in self.now (self.now.first + at / 256)) (at % 256))) (pos 0) }
+    {
+        let block = &self.blocks[at / PLACES];
+        block.number(at % PLACES).unwrap_or(0)
+    }
+
+    /// Writes the number at this distance from the first place of the row if it is owned and that
+    /// needs no memory, and returns whether it did.
+    #[inline(always)]
+    pub fn set_at(&mut self, at: usize, value: i64) -> bool
+        requires { at < 256 * length self.old.blocks.items }
+        ensures written { OnTrue result ((b k : ℕ)
+            → held_of (block_in self.new b) k
+            ≡ (if nat_eq b (self.old.first + at / 256) && nat_eq (at % 256) k
+            then Some (Owned value) else held_of (block_in self.old b) k)) }
+        ensures owned { OnTrue result (IsSome (owned_number
+            (held_of (block_in self.old (self.old.first + at / 256)) (at % 256)))) }
+        ensures same { OnFalse result ((b k : ℕ)
+            → held_of (block_in self.new b) k ≡ held_of (block_in self.old b) k) }
+        ensures first { self.new.first ≡ self.old.first }
+        ensures length { length self.new.blocks.items ≡ length self.old.blocks.items }
+    {
+        let block = &mut self.blocks[at / PLACES];
+        block.set(at % PLACES, value)
     }
 
     /// Replaces the block with a number, and returns the old one.

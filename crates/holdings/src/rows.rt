@@ -3,7 +3,7 @@
 use crate::row::BlockRow;
 use blocks::block::Block;
 use blocks::numbers::PLACES;
-use sections::window::Place;
+use sections::window::{Place, Window};
 use std::alloc::{AllocError, Global};
 
 /// A row of blocks for each array. A place is found by its array and its block.
@@ -14,11 +14,13 @@ pub struct BlockRows {
 }
 
 impl BlockRows {
-    ghost use Rattle.std.specs.Prelude.{◌≡◌, ◌<◌, ℕ, IfOk, IsSome, IsTrue, OnErr, OnOk, Some, None};
+    ghost use Rattle.std.specs.Prelude.{◌≡◌, ◌<◌, ℕ, IfOk, IfSome, IsSome, IsTrue, OnErr, OnOk, Some, None};
     ghost use Rattle.std.specs.Prelude.{false, is_some, option_copied};
     ghost use Rattle.std.specs.Bool.{OnFalse, OnTrue};
-    ghost use Rattle.sections.specs.Place.{Place as PlainPlace};
-    ghost use Rattle.sections.specs.Translation.{place as place_of};
+    ghost use Rattle.sections.specs.Place.{Place as PlainPlace, Window as PlainWindow};
+    ghost use Rattle.sections.specs.Translation.{place as place_of, window as window_of};
+    ghost use Rattle.types.specs.Contents.{read as read_of};
+    ghost use Rattle.holdings.specs.Reach.{LiesFrom, ReachesTo, place_at};
     ghost use Rattle.blocks.specs.Held.{Owned, in_place_of, numbers, owned, put};
     ghost use Rattle.holdings.specs.Rows.{Replaces, Widens, block_of, held_in};
 
@@ -76,6 +78,45 @@ impl BlockRows {
             None => None,
             Some(block) => block.number(place.index % PLACES),
         }
+    }
+
+    /// Returns how far a window's first place is from the first place of its array's row, if the row
+    /// has blocks for all of the window.
+    pub fn distance(&self, window: Window) -> Option<usize>
+        ensures { IfSome result (λ at. LiesFrom self.now.list.items (window_of window) at) }
+    {
+        match self.list.get(window.array.number) {
+            None => None,
+            Some(row) => row.distance(window.at, window.len),
+        }
+    }
+
+    /// Returns the number of an element of a window, by its distance from the row's first place, or
+    /// 0 if nothing is held there.
+    #[inline(always)]
+    pub fn number_at(&self, array: usize, at: usize) -> i64
+        requires { ReachesTo self.now.list.items array at }
+        ensures { result ≡ read_of (numbers (held_in self.now)) (place_at self.now.list.items array at) }
+    {
+        let row = &self.list[array];
+        row.number_at(at)
+    }
+
+    /// Writes the number at a distance from a row's first place if it is owned and that needs no
+    /// memory, and returns whether it did.
+    #[inline(always)]
+    pub fn set_at(&mut self, array: usize, at: usize, value: i64) -> bool
+        requires { ReachesTo self.old.list.items array at }
+        ensures written { OnTrue result (held_in self.new
+            ≡ put (place_at self.old.list.items array at) (Owned value) (held_in self.old)) }
+        ensures owned { OnTrue result
+            (IsSome (owned (held_in self.old) (place_at self.old.list.items array at))) }
+        ensures same { OnFalse result (held_in self.new ≡ held_in self.old) }
+        ensures lies { (w : PlainWindow) (d : ℕ)
+            → LiesFrom self.old.list.items w d → LiesFrom self.new.list.items w d }
+    {
+        let row = &mut self.list[array];
+        row.set_at(at, value)
     }
 
     /// Writes the number at an owned place, and returns whether the place is owned.

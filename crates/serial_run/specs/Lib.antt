@@ -15,3 +15,4 @@ pub mod Kind
 pub mod Stores
 pub mod StoreLaws
 pub mod Limits
+pub mod Writes

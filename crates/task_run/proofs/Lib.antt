@@ -30,6 +30,7 @@ pub mod SettledResults
 pub mod SideBySide
 pub mod Simulation
 pub mod SomeWhole
+pub mod SpanLemmas
 pub mod Stacks
 pub mod StartsWorth
 pub mod StaysStopped

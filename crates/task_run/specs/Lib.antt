@@ -19,6 +19,7 @@ pub mod Results
 pub mod RunTurns
 pub mod Runs
 pub mod Settling
+pub mod Spans
 pub mod Standings
 pub mod Stops
 pub mod TaskKind

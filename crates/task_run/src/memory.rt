@@ -13,8 +13,10 @@ use holdings::holdings::Holdings;
 use sections::id::SectionId;
 use sections::window::{Place, Window};
 use serial_run::arrays::Arrays;
+use serial_run::spot::Span;
 use statement_steps::memory::Memory;
 use std::alloc::{AllocError, Global};
+use types::fault::FaultKind;
 use types::value::{Environment, Places};
 
 /// What a task holds, as the memory of its statements.
@@ -68,14 +70,45 @@ impl Arrays for TaskMemory {
 
     ghost Has = { λ m q. ⊤ };
 
-    #[inline(always)]
-    fn get(&self, place: Place) -> i64 {
-        self.holdings.number(place)
+    fn find(&self, windows: &[Window], spans: &mut Vec<Span>) -> Result<(), AllocError> {
+        spans.clear();
+        for window in windows {
+            spans.push(self.span(*window))?;
+        }
+        Ok(())
     }
 
     #[inline(always)]
-    fn set(&mut self, place: Place, value: i64) -> bool {
-        self.holdings.set(place, value)
+    fn get(
+        &self,
+        windows: &[Window],
+        spans: &[Span],
+        section: usize,
+        index: i64,
+    ) -> Result<i64, FaultKind> {
+        let span = spans[section];
+        if index < 0 || (index as usize) >= span.len {
+            return self.get_apart(windows, section, index);
+        }
+        let at = span.at + index as usize;
+        Ok(self.holdings.number_at(span.row, at))
+    }
+
+    #[inline(always)]
+    fn set(
+        &mut self,
+        _windows: &[Window],
+        spans: &[Span],
+        section: usize,
+        index: i64,
+        value: i64,
+    ) -> bool {
+        let span = spans[section];
+        if index < 0 || (index as usize) >= span.len {
+            return false;
+        }
+        let at = span.at + index as usize;
+        self.holdings.set_at(span.row, at, value)
     }
 
     #[inline(never)]
@@ -97,8 +130,43 @@ impl Arrays for TaskMemory {
 }
 
 impl TaskMemory {
-    ghost use Rattle.std.specs.Prelude.{IfErr};
+    ghost use Rattle.std.specs.Prelude.{◌<◌, IfErr, Ok, length};
+    ghost use Rattle.serial_run.specs.Runs.{windowed};
+    ghost use Rattle.types.specs.Value.{element_of, then_try};
+    ghost use Rattle.task_run.specs.Spans.{IsWhere};
     ghost use Rattle.holdings.specs.declared.error.HoldError.TheVariants.{OutOfMemory};
+
+    /// Returns where the elements of a window are: side by side in the blocks of its array, or
+    /// unknown, if the task has no blocks for some of them.
+    fn span(&self, window: Window) -> Span
+        ensures { IsWhere self.now.holdings (window_of window) result }
+    {
+        match self.holdings.distance(window) {
+            None => Span {
+                row: 0,
+                at: 0,
+                len: 0,
+            },
+            Some(at) => Span {
+                row: window.array.number,
+                at,
+                len: window.len,
+            },
+        }
+    }
+
+    /// Does what `get` does, kept out of the fast path for windows whose elements are found.
+    #[inline(never)]
+    fn get_apart(&self, windows: &[Window], section: usize, index: i64) -> Result<i64, FaultKind>
+        requires { section < length windows.now }
+        ensures { result ≡ then_try (element_of (windowed windows.now section) index)
+            (λ q. Ok (read_of (contents_of self.now.holdings) q)) }
+    {
+        match windows[section].place(index) {
+            None => Err(FaultKind::Index),
+            Some(place) => Ok(self.holdings.number(place)),
+        }
+    }
 
     /// Takes the places of `writes` out, and copies those of `reads`, for a child. Without `reads`,
     /// nothing is put together.

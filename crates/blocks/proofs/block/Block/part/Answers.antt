@@ -1,6 +1,6 @@
 use Rattle.std.proofs.Common.{ap, arith}
 use Rattle.blocks.specs.Blocks.{held_at}
-use Rattle.blocks.proofs.BlockLemmas.{reach-held, reach-mixed}
+use Rattle.blocks.proofs.BlockLemmas.{reach-held, reach-mixed, whole-held}
 use Rattle.blocks.proofs.WalkLemmas.{in_range-true}
 use Rattle.blocks.proofs.block.Block.part.Goals as goal
 
@@ -12,6 +12,10 @@ unreachable-requires c =
 pub part-requires-clause-there : goal.part-requires-clause-there
 part-requires-clause-there c =
     reach-mixed c.args.self.now c.deref.result.now c.in-Mixed.mixed c.args.from c.args.to c.requires.range c.deref.ensures c.in-Mixed.is c.requires.held
+
+pub part-requires-in-WholeOwned-clause-places : goal.part-requires-in-WholeOwned-clause-places
+part-requires-in-WholeOwned-clause-places c =
+    (whole-held c.args.self.now c.args.from c.args.to c.requires.range c.in-WholeOwned.whole c.in-WholeOwned.is).1 c.requires.held
 
 pub part-requires-in-Owned-clause-there : goal.part-requires-in-Owned-clause-there
 part-requires-in-Owned-clause-there c =

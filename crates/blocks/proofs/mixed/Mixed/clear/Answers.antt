@@ -1,4 +1,4 @@
-use Rattle.std.proofs.Common.{◌≡◌, ◌∙◌, ℕ, ◌+◌, ◌-◌, ◌<◌, ◌≤◌, List, ap, ap₂, arith, length, replicate, rules, sym}
+use Rattle.std.proofs.Common.{◌≡◌, ◌∙◌, ℕ, ◌+◌, ◌-◌, ◌≤◌, List, ap, ap₂, arith, length, replicate, rules, sym}
 use Rattle.std.proofs.lemmas.List.{length-replicate, with_items_is}
 use borrow.Rule.Slice.PartMut.{mid_len, mid_of, put_mid}
 use Rattle.blocks.specs.declared.kind.HeldAs.{HeldAs}

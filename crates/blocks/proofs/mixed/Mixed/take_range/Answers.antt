@@ -1,7 +1,7 @@
-use Rattle.std.proofs.Common.{◌≡◌, ◌-◌, Option, Some, None, ap, sym, refl, ◌∙◌, arith, rules, w64, FitsSigned}
+use Rattle.std.proofs.Common.{◌≡◌, Some, ap, sym, refl, ◌∙◌, arith, rules, w64, FitsSigned}
 use Rattle.std.proofs.lemmas.Int.{to_z-of_z}
 use Rattle.std.specs.Prelude.{ℤ, if◌then◌else◌}
-use Rattle.blocks.specs.Blocks.{held_in, held_at, owned_at}
+use Rattle.blocks.specs.Blocks.{held_in, held_at}
 use Rattle.blocks.specs.Held.{Held, Owned}
 use Rattle.blocks.specs.Offsets.{Offsets, in_range}
 use Rattle.blocks.proofs.BlockLemmas.{IsAsWide-again, IsAsWide-there, owned_held}

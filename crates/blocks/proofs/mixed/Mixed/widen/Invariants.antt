@@ -1,4 +1,4 @@
-use Rattle.std.proofs.Common.{◌-◌, ◌+◌, ◌≡◌, length}
+use Rattle.std.proofs.Common.{◌-◌, ◌+◌, length}
 use Rattle.blocks.specs.Blocks.{held_in}
 use Rattle.blocks.specs.Numbers.{number_in}
 use Rattle.blocks.specs.Offsets.{Agree, IsWithin}

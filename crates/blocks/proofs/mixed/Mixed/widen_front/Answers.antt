@@ -1,6 +1,5 @@
 use Rattle.std.proofs.Common.{◌≡◌, ◌≤◌, ◌+◌, ◌-◌, ◌++◌, ℕ, length, replicate, ap, ◌∙◌, arith, rules}
-use Rattle.std.proofs.lemmas.List.{length-append, length-replicate}
-use Rattle.blocks.specs.declared.kind.HeldAs.{HeldAs}
+use Rattle.std.proofs.lemmas.List.{length-append}
 use Rattle.blocks.specs.declared.kind.HeldAs.TheVariants.{Absent}
 use Rattle.blocks.specs.declared.mixed.Mixed.{Mixed}
 use Rattle.blocks.proofs.BlockLemmas.{row_from-wider}

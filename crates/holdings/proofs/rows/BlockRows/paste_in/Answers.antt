@@ -6,14 +6,15 @@ use Rattle.sections.specs.Place.{Place}
 use Rattle.std.specs.Arc.{arc_value}
 use Rattle.std.specs.declared.alloc.Global.{Global}
 use Rattle.std.specs.declared.sync.Arc.{Arc}
-use Rattle.blocks.specs.Numbers.{number_in}
+use Rattle.blocks.specs.Numbers.{number_in, whole_at}
 use Rattle.blocks.specs.Blocks.{held_at, owned_at}
 use Rattle.blocks.specs.Held.{Held, Map, Owned, first_of}
 use Rattle.blocks.specs.Offsets.{IsWithin}
 use Rattle.blocks.specs.Ready.{CanTake}
 use Rattle.blocks.specs.declared.block.Block.{Block}
-use Rattle.blocks.specs.declared.block.Block.TheVariants.{Empty, Mixed, Owned as AllOwned, Shared as AllShared}
+use Rattle.blocks.specs.declared.block.Block.TheVariants.{Empty, Mixed, Owned as AllOwned, Shared as AllShared, WholeOwned, WholeShared}
 use Rattle.blocks.specs.declared.numbers.Numbers.{Numbers}
+use Rattle.blocks.specs.declared.whole.Whole.{Whole}
 use Rattle.blocks.proofs.BlockLemmas.{held_at-behind, owned_number-shared}
 use Rattle.holdings.specs.Rooms.{HasRoom, TakesIn}
 use Rattle.holdings.specs.Rows.{block_of, held_in_list, in_block}
@@ -32,17 +33,22 @@ nothing_pasted own a m b none q = by_here (in_block a m q)
     by_here false = refl
     by_here true = ap (λ o. first_of (option_map Owned o) (own q)) (sym (none (q.index % 256)))
 
-owns_none : (b : Block) → (b ≡ Empty) ⊎ ((n : Arc Numbers Global) × (b ≡ AllShared n)) → (k : ℕ) → owned_at b k ≡ None
+owns_none : (b : Block) → (b ≡ Empty) ⊎ (((n : Arc Numbers Global) × (b ≡ AllShared n)) ⊎ ((w : Arc Whole Global) × (b ≡ WholeShared w)))
+    → (k : ℕ) → owned_at b k ≡ None
 owns_none b (inl e) k = ap (λ x. owned_at x k) e
-owns_none b (inr w) k = ap (λ x. owned_at x k) w.1 ∙ owned_number-shared (number_in (arc_value w.0) k)
+owns_none b (inr (inl w)) k = ap (λ x. owned_at x k) w.1 ∙ owned_number-shared (number_in (arc_value w.0) k)
+owns_none b (inr (inr w)) k = ap (λ x. owned_at x k) w.1 ∙ owned_number-shared (whole_at (arc_value w.0) k)
 
 -- if there is room for a block that may own something, a block exists
 takes_in : (rs : List BlockRow) (a b : ℕ) (theirs : Block) → (theirs ≡ Empty → ⊥) → ((n : _) → theirs ≡ AllShared n → ⊥)
+    → ((w : _) → theirs ≡ WholeShared w → ⊥)
     → HasRoom rs a b theirs → TakesIn rs a b theirs
-takes_in rs a b Empty full owns room = absurd (full refl)
-takes_in rs a b (AllShared n) full owns room = absurd (owns n refl)
-takes_in rs a b (AllOwned n) full owns room = room
-takes_in rs a b (Mixed m) full owns room = room
+takes_in rs a b (WholeOwned w) full owns all room = room
+takes_in rs a b (WholeShared w) full owns all room = absurd (all w refl)
+takes_in rs a b Empty full owns all room = absurd (full refl)
+takes_in rs a b (AllShared n) full owns all room = absurd (owns n refl)
+takes_in rs a b (AllOwned n) full owns all room = room
+takes_in rs a b (Mixed m) full owns all room = room
 
 -- what is held of the block's places is held of its offsets
 within : (own : List BlockRow) (a m : ℕ) (mine theirs : Block) → block_of own a m ≡ Some mine
@@ -78,12 +84,12 @@ returns-in-Empty c = record {
 
 pub swap-mine-requires : goal.swap-mine-requires
 swap-mine-requires c =
-    let room = takes_in c.args.self.now.list.items c.args.array c.args.number c.args.theirs c.in_default.not-Empty c.in_default.not-Shared c.requires in
+    let room = takes_in c.args.self.now.list.items c.args.array c.args.number c.args.theirs c.in_default.not-Empty c.in_default.not-Shared c.in_default.not-WholeShared c.requires in
     ap is_some room.there
 
 pub paste-copied-requires : goal.paste-copied-requires
 paste-copied-requires c =
-    let room = takes_in c.args.self.now.list.items c.args.array c.args.number c.args.theirs c.in_default.not-Empty c.in_default.not-Shared c.requires in
+    let room = takes_in c.args.self.now.list.items c.args.array c.args.number c.args.theirs c.in_default.not-Empty c.in_default.not-Shared c.in_default.not-WholeShared c.requires in
     subst (λ b. CanTake b c.args.theirs) (same_Some _ _ (sym room.there ∙ c.swap-mine.ensures.old)) room.room
 
 pub swap-requires : goal.swap-requires
