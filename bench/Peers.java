@@ -137,7 +137,7 @@ class Peers {
             case "matrix_product":
                 return matrixProduct();
             case "queens":
-                return "" + starts(0, 64, 8);
+                return "" + starts(0, 100, 10);
             default:
                 throw new IllegalArgumentException(name);
         }

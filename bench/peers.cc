@@ -135,7 +135,7 @@ static std::string kernel(const std::string &name) {
     if (name == "fib_tasks") return std::to_string(fib(30));
     if (name == "merge_sort") return merge_sort();
     if (name == "matrix_product") return matrix_product();
-    if (name == "queens") return std::to_string(starts(0, 64, 8));
+    if (name == "queens") return std::to_string(starts(0, 100, 10));
     std::exit(2);
 }
 

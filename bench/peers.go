@@ -178,7 +178,7 @@ func kernel(name string) string {
 	case "matrix_product":
 		return matrixProduct()
 	case "queens":
-		return fmt.Sprintln(starts(0, 64, 8))
+		return fmt.Sprintln(starts(0, 100, 10))
 	}
 	os.Exit(2)
 	return ""

@@ -130,7 +130,7 @@ fn kernel(name: &str) -> String {
         "fib_tasks" => format!("{}\n", fib(30)),
         "merge_sort" => merge_sort(),
         "matrix_product" => matrix_product(),
-        "queens" => format!("{}\n", starts(0, 64, 8)),
+        "queens" => format!("{}\n", starts(0, 100, 10)),
         _ => std::process::exit(2),
     }
 }
