@@ -110,10 +110,10 @@ func numbers(piece []int64, first int) {
 	}
 }
 
-func disorder(a []int64) int {
+func disorder(a []int64, from, to int) int {
 	count := 0
-	for i := 1; i < len(a); i++ {
-		if a[i-1] > a[i] {
+	for i := from; i < to && i+1 < len(a); i++ {
+		if a[i] > a[i+1] {
 			count++
 		}
 	}
@@ -138,7 +138,7 @@ func mergeSort() string {
 	wrong := make([]int, 64)
 	each(64, func(k int) { numbers(a[k*4096:(k+1)*4096], k*4096) })
 	sort(a, scratch, false)
-	each(64, func(k int) { wrong[k] = disorder(a[k*4096 : min(k*4096+4097, len(a))]) })
+	each(64, func(k int) { wrong[k] = disorder(a, k*4096, (k+1)*4096) })
 	total := 0
 	for _, it := range wrong {
 		total += it
