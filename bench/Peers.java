@@ -1,6 +1,7 @@
 // The kernels of bench/peers.sh by Java's pool: the result of a kernel, and the minimum of up to 20 times in nanoseconds.
 import java.util.concurrent.ForkJoinPool;
 import java.util.concurrent.RecursiveAction;
+import java.util.function.IntConsumer;
 
 class Peers {
     private static class Task extends RecursiveAction {
@@ -48,25 +49,64 @@ class Peers {
         }
     }
 
-    private static void sort(long[] s, long[] t, int from, int to) {
+    private static void merge(long[] s, long[] out, int from, int middle, int to) {
+        for (int i = from, j = middle, k = from; k < to; k++)
+            out[k] = j == to || i < middle && s[i] <= s[j] ? s[i++] : s[j++];
+    }
+
+    // Sorts a part of s in place, or into t. Parts of up to 4,096 are sorted without tasks.
+    private static void sort(long[] s, long[] t, int from, int to, boolean into) {
         if (to - from <= 32) {
             insertion(s, from, to);
+            if (into) System.arraycopy(s, from, t, from, to - from);
             return;
         }
         int middle = from + (to - from) / 2;
-        both(() -> sort(s, t, from, middle), () -> sort(s, t, middle, to));
-        for (int i = from, j = middle, k = from; k < to; k++)
-            t[k] = j == to || i < middle && s[i] <= s[j] ? s[i++] : s[j++];
-        System.arraycopy(t, from, s, from, to - from);
+        if (to - from <= 4096) {
+            sort(s, t, from, middle, !into);
+            sort(s, t, middle, to, !into);
+        } else {
+            both(() -> sort(s, t, from, middle, !into), () -> sort(s, t, middle, to, !into));
+        }
+        if (into) merge(s, t, from, middle, to);
+        else merge(t, s, from, middle, to);
+    }
+
+    private static void numbers(long[] a, int from, int to) {
+        long x = 1, times = 1103515245, plus = 12345;
+        for (int steps = from; steps > 0; steps /= 2) {
+            if (steps % 2 == 1) x = (x * times + plus) % 2147483648L;
+            plus = (times * plus + plus) % 2147483648L;
+            times = times * times % 2147483648L;
+        }
+        for (int i = from; i < to; i++) a[i] = x = (x * 1103515245 + 12345) % 2147483648L;
+    }
+
+    private static long disorder(long[] a, int from, int to) {
+        long count = 0;
+        for (int i = from; i < to && i + 1 < a.length; i++) if (a[i] > a[i + 1]) count++;
+        return count;
+    }
+
+    // Runs a part for each of the numbers below n as a task, and waits for all.
+    private static void each(int n, IntConsumer part) {
+        Task[] tasks = new Task[n];
+        for (int k = 0; k < n; k++) {
+            int number = k;
+            tasks[k] = new Task(() -> part.accept(number));
+            tasks[k].fork();
+        }
+        for (Task task : tasks) task.join();
     }
 
     private static String mergeSort() {
-        long[] a = new long[262144], scratch = new long[262144];
-        long x = 1, wrong = 0;
-        for (int i = 0; i < a.length; i++) a[i] = x = (x * 1103515245 + 12345) % 2147483648L;
-        sort(a, scratch, 0, a.length);
-        for (int i = 1; i < a.length; i++) if (a[i - 1] > a[i]) wrong++;
-        return wrong + " " + a[0] + " " + a[a.length - 1];
+        long[] a = new long[262144], scratch = new long[262144], wrong = new long[64];
+        each(64, k -> numbers(a, k * 4096, (k + 1) * 4096));
+        sort(a, scratch, 0, a.length, false);
+        each(64, k -> wrong[k] = disorder(a, k * 4096, (k + 1) * 4096));
+        long total = 0;
+        for (long it : wrong) total += it;
+        return total + " " + a[0] + " " + a[a.length - 1];
     }
 
     private static void product(long[] a, long[] b, long[] c, int n, int from, int to) {
@@ -137,7 +177,7 @@ class Peers {
             case "matrix_product":
                 return matrixProduct();
             case "queens":
-                return "" + starts(0, 64, 8);
+                return "" + starts(0, 100, 10);
             default:
                 throw new IllegalArgumentException(name);
         }

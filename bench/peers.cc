@@ -1,4 +1,5 @@
 // The kernels of bench/peers.sh by oneTBB: the result of a kernel, and the minimum of up to 20 times in nanoseconds.
+#include <algorithm>
 #include <chrono>
 #include <cstdint>
 #include <cstdio>
@@ -48,28 +49,60 @@ static void insertion(num *s, num length) {
     }
 }
 
-static void sort(num *s, num *t, num length) {
+static void merge(const num *from, num half, num length, num *out) {
+    for (num i = 0, j = half, k = 0; k < length; k++)
+        out[k] = j == length || (i < half && from[i] <= from[j]) ? from[i++] : from[j++];
+}
+
+// Sorts s in place, or into t. Parts of up to 4,096 are sorted without tasks.
+static void sort(num *s, num *t, num length, bool into) {
     if (length <= 32) {
         insertion(s, length);
+        if (into) std::memcpy(t, s, length * sizeof *s);
         return;
     }
     num half = length / 2;
-    tbb::task_group group;
-    group.run([s, t, half] { sort(s, t, half); });
-    sort(s + half, t + half, length - half);
-    group.wait();
-    for (num i = 0, j = half, k = 0; k < length; k++)
-        t[k] = j == length || (i < half && s[i] <= s[j]) ? s[i++] : s[j++];
-    std::memcpy(s, t, length * sizeof *s);
+    if (length <= 4096) {
+        sort(s, t, half, !into);
+        sort(s + half, t + half, length - half, !into);
+    } else {
+        tbb::task_group group;
+        group.run([=] { sort(s, t, half, !into); });
+        sort(s + half, t + half, length - half, !into);
+        group.wait();
+    }
+    if (into) merge(s, half, length, t);
+    else merge(t, half, length, s);
+}
+
+static void numbers(num *piece, num first) {
+    num x = 1, times = 1103515245, plus = 12345;
+    for (num steps = first; steps > 0; steps /= 2) {
+        if (steps % 2 == 1) x = (x * times + plus) % 2147483648;
+        plus = (times * plus + plus) % 2147483648;
+        times = times * times % 2147483648;
+    }
+    for (num i = 0; i < 4096; i++) piece[i] = x = (x * 1103515245 + 12345) % 2147483648;
+}
+
+static num disorder(const num *a, num from, num to) {
+    num count = 0;
+    for (num i = from; i < to; i++) count += a[i] > a[i + 1];
+    return count;
 }
 
 static std::string merge_sort() {
-    std::vector<num> a(262144), scratch(262144);
-    num x = 1, wrong = 0;
-    for (num &it : a) it = x = (x * 1103515245 + 12345) % 2147483648;
-    sort(a.data(), scratch.data(), a.size());
-    for (std::size_t i = 1; i < a.size(); i++) wrong += a[i - 1] > a[i];
-    return std::to_string(wrong) + " " + std::to_string(a.front()) + " " + std::to_string(a.back());
+    num length = 262144, size = 4096, total = 0;
+    std::vector<num> a(length), scratch(length), wrong(length / size);
+    tbb::task_group group;
+    for (num k = 0; k < length / size; k++) group.run([&, k] { numbers(&a[k * size], k * size); });
+    group.wait();
+    sort(a.data(), scratch.data(), length, false);
+    for (num k = 0; k < length / size; k++)
+        group.run([&, k] { wrong[k] = disorder(a.data(), k * size, std::min(k * size + size, length - 1)); });
+    group.wait();
+    for (num it : wrong) total += it;
+    return std::to_string(total) + " " + std::to_string(a.front()) + " " + std::to_string(a.back());
 }
 
 static void product(const num *a, const num *b, num *c, num n, num rows) {
@@ -135,7 +168,7 @@ static std::string kernel(const std::string &name) {
     if (name == "fib_tasks") return std::to_string(fib(30));
     if (name == "merge_sort") return merge_sort();
     if (name == "matrix_product") return matrix_product();
-    if (name == "queens") return std::to_string(starts(0, 64, 8));
+    if (name == "queens") return std::to_string(starts(0, 100, 10));
     std::exit(2);
 }
 

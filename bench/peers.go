@@ -59,40 +59,91 @@ func insertion(s []int64) {
 	}
 }
 
-func sort(s, t []int64) {
-	if len(s) <= 32 {
-		insertion(s)
-		return
-	}
-	half := len(s) / 2
-	both(func() { sort(s[:half], t[:half]) }, func() { sort(s[half:], t[half:]) })
-	for i, j, k := 0, half, 0; k < len(s); k++ {
-		if j == len(s) || i < half && s[i] <= s[j] {
-			t[k] = s[i]
+func merge(x, y, out []int64) {
+	i, j := 0, 0
+	for k := range out {
+		if j == len(y) || i < len(x) && x[i] <= y[j] {
+			out[k] = x[i]
 			i++
 		} else {
-			t[k] = s[j]
+			out[k] = y[j]
 			j++
 		}
 	}
-	copy(s, t)
+}
+
+// sort sorts s in place, or into t. Parts of up to 4,096 are sorted without goroutines.
+func sort(s, t []int64, into bool) {
+	if len(s) <= 32 {
+		insertion(s)
+		if into {
+			copy(t, s)
+		}
+		return
+	}
+	half := len(s) / 2
+	if len(s) <= 4096 {
+		sort(s[:half], t[:half], !into)
+		sort(s[half:], t[half:], !into)
+	} else {
+		both(func() { sort(s[:half], t[:half], !into) }, func() { sort(s[half:], t[half:], !into) })
+	}
+	if into {
+		merge(s[:half], s[half:], t)
+	} else {
+		merge(t[:half], t[half:], s)
+	}
+}
+
+func numbers(piece []int64, first int) {
+	x, times, plus := int64(1), int64(1103515245), int64(12345)
+	for steps := first; steps > 0; steps /= 2 {
+		if steps%2 == 1 {
+			x = (x*times + plus) % 2147483648
+		}
+		plus = (times*plus + plus) % 2147483648
+		times = times * times % 2147483648
+	}
+	for i := range piece {
+		x = (x*1103515245 + 12345) % 2147483648
+		piece[i] = x
+	}
+}
+
+func disorder(a []int64, from, to int) int {
+	count := 0
+	for i := from; i < to && i+1 < len(a); i++ {
+		if a[i] > a[i+1] {
+			count++
+		}
+	}
+	return count
+}
+
+// each runs a function for 0 to n - 1, each as a goroutine, and waits for all.
+func each(n int, one func(k int)) {
+	var all sync.WaitGroup
+	all.Add(n)
+	for k := 0; k < n; k++ {
+		go func(k int) {
+			one(k)
+			all.Done()
+		}(k)
+	}
+	all.Wait()
 }
 
 func mergeSort() string {
 	a, scratch := make([]int64, 262144), make([]int64, 262144)
-	x := int64(1)
-	for i := range a {
-		x = (x*1103515245 + 12345) % 2147483648
-		a[i] = x
+	wrong := make([]int, 64)
+	each(64, func(k int) { numbers(a[k*4096:(k+1)*4096], k*4096) })
+	sort(a, scratch, false)
+	each(64, func(k int) { wrong[k] = disorder(a, k*4096, (k+1)*4096) })
+	total := 0
+	for _, it := range wrong {
+		total += it
 	}
-	sort(a, scratch)
-	wrong := 0
-	for i := 1; i < len(a); i++ {
-		if a[i-1] > a[i] {
-			wrong++
-		}
-	}
-	return fmt.Sprintln(wrong, a[0], a[len(a)-1])
+	return fmt.Sprintln(total, a[0], a[len(a)-1])
 }
 
 func product(a, b, c []int64, n int) {
@@ -178,7 +229,7 @@ func kernel(name string) string {
 	case "matrix_product":
 		return matrixProduct()
 	case "queens":
-		return fmt.Sprintln(starts(0, 64, 8))
+		return fmt.Sprintln(starts(0, 100, 10))
 	}
 	os.Exit(2)
 	return ""

@@ -31,37 +31,76 @@ fn insertion(s: &mut [i64]) {
     }
 }
 
-fn sort(s: &mut [i64], t: &mut [i64]) {
-    if s.len() <= 32 {
-        return insertion(s);
-    }
-    let half = s.len() / 2;
-    let (l, r) = s.split_at_mut(half);
-    let (tl, tr) = t.split_at_mut(half);
-    rayon::join(|| sort(l, tl), || sort(r, tr));
-    let (mut i, mut j) = (0, half);
-    for to in t.iter_mut() {
-        if j == s.len() || i < half && s[i] <= s[j] {
-            *to = s[i];
+fn merge(x: &[i64], y: &[i64], out: &mut [i64]) {
+    let (mut i, mut j) = (0, 0);
+    for to in out.iter_mut() {
+        if j == y.len() || i < x.len() && x[i] <= y[j] {
+            *to = x[i];
             i += 1;
         } else {
-            *to = s[j];
+            *to = y[j];
             j += 1;
         }
     }
-    s.copy_from_slice(t);
 }
 
-fn merge_sort() -> String {
-    let (mut a, mut scratch) = (vec![0; 262144], vec![0; 262144]);
-    let mut x: i64 = 1;
-    for it in a.iter_mut() {
+/// Sorts `s` in place, or into `t`. Parts of up to 4,096 are sorted without tasks.
+fn sort(s: &mut [i64], t: &mut [i64], into: bool) {
+    let length = s.len();
+    if length <= 32 {
+        insertion(s);
+        if into {
+            t.copy_from_slice(s);
+        }
+        return;
+    }
+    let (sl, sr) = s.split_at_mut(length / 2);
+    let (tl, tr) = t.split_at_mut(length / 2);
+    if length <= 4096 {
+        sort(sl, tl, !into);
+        sort(sr, tr, !into);
+    } else {
+        rayon::join(|| sort(sl, tl, !into), || sort(sr, tr, !into));
+    }
+    if into {
+        merge(sl, sr, t);
+    } else {
+        merge(tl, tr, s);
+    }
+}
+
+fn numbers(piece: &mut [i64], first: usize) {
+    let (mut x, mut times, mut plus, mut steps): (i64, i64, i64, usize) = (1, 1103515245, 12345, first);
+    while steps > 0 {
+        if steps % 2 == 1 {
+            x = (x * times + plus) % 2147483648;
+        }
+        plus = (times * plus + plus) % 2147483648;
+        times = times * times % 2147483648;
+        steps /= 2;
+    }
+    for it in piece.iter_mut() {
         x = (x * 1103515245 + 12345) % 2147483648;
         *it = x;
     }
-    sort(&mut a, &mut scratch);
-    let wrong = a.windows(2).filter(|it| it[0] > it[1]).count();
-    format!("{} {} {}\n", wrong, a[0], a[a.len() - 1])
+}
+
+fn merge_sort() -> String {
+    let (mut a, mut scratch, mut wrong) = (vec![0; 262144], vec![0; 262144], vec![0; 64]);
+    rayon::scope(|scope| {
+        for (k, piece) in a.chunks_mut(4096).enumerate() {
+            scope.spawn(move |_| numbers(piece, k * 4096));
+        }
+    });
+    sort(&mut a, &mut scratch, false);
+    let all = &a;
+    rayon::scope(|scope| {
+        for (k, count) in wrong.iter_mut().enumerate() {
+            let end = all.len().min(k * 4096 + 4097);
+            scope.spawn(move |_| *count = all[k * 4096..end].windows(2).filter(|it| it[0] > it[1]).count());
+        }
+    });
+    format!("{} {} {}\n", wrong.iter().sum::<usize>(), a[0], a[a.len() - 1])
 }
 
 fn product(a: &[i64], b: &[i64], c: &mut [i64], n: usize) {
@@ -130,7 +169,7 @@ fn kernel(name: &str) -> String {
         "fib_tasks" => format!("{}\n", fib(30)),
         "merge_sort" => merge_sort(),
         "matrix_product" => matrix_product(),
-        "queens" => format!("{}\n", starts(0, 64, 8)),
+        "queens" => format!("{}\n", starts(0, 100, 10)),
         _ => std::process::exit(2),
     }
 }

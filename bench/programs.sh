@@ -4,11 +4,11 @@
 # The programs that test a single cost, and the kernels of docs/COOKBOOK.md at larger sizes; each with its number of tasks.
 single='blocks:1024 halves:65536 readers:1024 wide_readers:100 tree:75025 fib_tasks:987 quicksort_tiny:87273
     ntt_tiny:49151 parallel_merge_sort_tiny:75797'
-kernels='reduce:256 prefix_sum:2049 histogram:9 merge_sort:8192 parallel_merge_sort:6881 quicksort:2023
-    matrix_product:128 lu:1073 floyd_warshall:505 jacobi:2561 life:4097 blur:257 segmented_sieve:64
-    mandelbrot:128 bfs:211 match:65 lcs:6142 queens:64 ntt:383'
+kernels='reduce:512 prefix_sum:769 histogram:65 merge_sort:192 parallel_merge_sort:709 quicksort:293
+    matrix_product:128 lu:321 floyd_warshall:513 jacobi:2561 life:4097 blur:273 segmented_sieve:64
+    mandelbrot:128 bfs:467 match:257 lcs:1025 queens:100 ntt:199'
 # Kernels and a loop in another form: with `split` in place of `parts`, or the other way round.
-forms='jacobi_split:2521 histogram_split:8 matrix_product_parts:129 turns:1 turns_split:1 turns_while:1'
+forms='jacobi_split:2521 histogram_split:64 matrix_product_parts:129 turns:1 turns_split:1 turns_while:1'
 
 # names LIST: prints the names of a list
 names() {
@@ -33,13 +33,13 @@ letters() {
 # Makes the inputs of the programs that have one.
 make_inputs() {
     echo "{\"x\": $(letters 1 | bytes), \"y\": $(letters 2 | bytes)}" >"$made/lcs.json"
-    text=$(yes 'the cat sat on the mat; then the other cat went there. ' | tr -d '\n' | head -c 262144 | bytes)
-    echo "{\"text\": $text, \"pattern\": $(printf then | bytes)}" >"$made/match.json"
+    yes 'the cat sat on the mat; then the other cat went there. ' | tr -d '\n' | head -c 1048576 >"$made/match.txt"
 }
 
 # input_of NAME: prints the option for the input of a program, if it has one
 input_of() {
     [ ! -e "$made/$1.json" ] || echo "--input $made/$1.json"
+    [ ! -e "$made/$1.txt" ] || echo "--text text=$made/$1.txt"
 }
 
 # once CMD..: sets $took to the time of a command in microseconds, or `failed`, and $held to its memory in MB; its output goes
