@@ -6,7 +6,7 @@ single='blocks:1024 halves:65536 readers:1024 wide_readers:100 tree:75025 fib_ta
     ntt_tiny:49151 parallel_merge_sort_tiny:75797'
 kernels='reduce:512 prefix_sum:769 histogram:65 merge_sort:192 parallel_merge_sort:709 quicksort:293
     matrix_product:128 lu:321 floyd_warshall:513 jacobi:2561 life:4097 blur:273 segmented_sieve:64
-    mandelbrot:128 bfs:467 match:257 lcs:1025 queens:100 ntt:199'
+    mandelbrot:128 bfs:467 match:65 lcs:1025 queens:100 ntt:199'
 # Kernels and a loop in another form: with `split` in place of `parts`, or the other way round.
 forms='jacobi_split:2521 histogram_split:64 matrix_product_parts:129 turns:1 turns_split:1 turns_while:1'
 
