@@ -6,10 +6,11 @@ use Rattle.std.specs.declared.alloc.Global.{Global}
 use Rattle.std.specs.declared.boxed.Box.{Box}
 use Rattle.std.specs.declared.sync.Arc.{Arc}
 use Rattle.blocks.specs.Counts.{how_many}
-use Rattle.std.specs.Prelude.{ℤ, pos, is_some, option_map}
+use Rattle.std.proofs.lemmas.List.{get_or-take}
+use Rattle.std.specs.Prelude.{ℤ, pos, is_some, get_or, option_map, take, unwrap_or}
 use Rattle.blocks.specs.Numbers.{number_in, row_from, whole_at}
-use Rattle.blocks.specs.Blocks.{held_at, owned_at}
-use Rattle.blocks.specs.Held.{Held, Owned, Shared, first_of, owned_number}
+use Rattle.blocks.specs.Blocks.{held_at, number_at, owned_at}
+use Rattle.blocks.specs.Held.{Held, Owned, Shared, first_of, number_of, owned_number}
 use Rattle.blocks.specs.Offsets.{Offsets, Agree, HasAll, IsWithin, in_range}
 use Rattle.blocks.specs.Numbers.{IsAsWide, ReachOver}
 use Rattle.blocks.specs.Ready.{IsReady, room_at}
@@ -161,6 +162,25 @@ whole-all w from to lt = (
       let b = row_from-there 0 w.numbers (to - 1) (all (to - 1) (in_range-true from to (to - 1) last end)) in
       omega (arith, b.1, lt, w.full),
 )
+
+number_of-held : (o : Option ℤ) → (option_map number_of (option_map Owned o) ≡ o) × (option_map number_of (option_map Shared o) ≡ o)
+number_of-held None = (refl, refl)
+number_of-held (Some v) = (refl, refl)
+
+-- the first numbers of a whole block are those of its first offsets
+pub whole-first : (b : Block) (a : Arc Whole Global) (n k : ℕ) (x : ℤ) → (b ≡ WholeOwned a) ⊎ (b ≡ WholeShared a) → n ≤ 256 → k < n
+    → get_or (take n (arc_value a).numbers) k (pos 0) ≡ unwrap_or (number_at b k) x
+whole-first b a n k x is le lt =
+    let w = arc_value a in
+    let at : k - 0 ≡ k = omega arith in
+    let there : whole_at w k ≡ Some (get_or w.numbers k (pos 0)) =
+    row_from-in 0 w.numbers k (pos 0) (omega arith) (omega (arith, w.full, le, lt))
+    ∙ ap (λ i. Some (get_or w.numbers i (pos 0))) at in
+    get_or-take n w.numbers k (pos 0) lt ∙ sym (ap (λ o. unwrap_or o x) (held is ∙ there))
+  where
+    held : (b ≡ WholeOwned a) ⊎ (b ≡ WholeShared a) → number_at b k ≡ whole_at (arc_value a) k
+    held (inl e) = ap (λ b. number_at b k) e ∙ (number_of-held (whole_at (arc_value a) k)).0
+    held (inr e) = ap (λ b. number_at b k) e ∙ (number_of-held (whole_at (arc_value a) k)).1
 
 -- a test whether a whole block that is owned owns a range
 pub whole-owned : (b : Block) (from to : ℕ) → from < to → (a : Arc Whole Global) → b ≡ WholeOwned a

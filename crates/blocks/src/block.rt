@@ -152,6 +152,12 @@ impl Block {
         ensures { (k : ℕ) → k < length numbers.old → get_or numbers.new k (pos 0)
             ≡ unwrap_or (number_at self.now k) (get_or numbers.old k (pos 0)) }
     {
+        if let Block::WholeOwned(whole) | Block::WholeShared(whole) = self
+            && numbers.len() <= PLACES
+        {
+            whole.copy_to(numbers);
+            return;
+        }
         for (offset, place) in numbers.iter_mut().enumerate() {
             if let Some(number) = self.number(offset) {
                 *place = number;

@@ -15,7 +15,7 @@ pub struct Whole {
 }
 
 impl Whole {
-    ghost use Rattle.std.specs.Prelude.{◌-◌, ◌<◌, ◌≤◌, ℕ, IfOk, IsTrue, None, false, is_some};
+    ghost use Rattle.std.specs.Prelude.{◌-◌, ◌<◌, ◌≤◌, ℕ, IfOk, IsTrue, None, false, is_some, take};
     ghost use Rattle.std.specs.Arc.{arc_value};
     ghost use Rattle.blocks.specs.Numbers.{number_in, whole_at};
     ghost use Rattle.blocks.specs.Offsets.{Agree, inside, put_at};
@@ -65,6 +65,15 @@ impl Whole {
         Whole {
             numbers: self.numbers,
         }
+    }
+
+    /// Copies the first numbers to all places of a list.
+    pub(crate) fn copy_to(&self, numbers: &mut [i64])
+        requires { length numbers.old ≤ 256 }
+        ensures { numbers.new ≡ take (length numbers.old) self.now.numbers }
+    {
+        let count = numbers.len();
+        numbers.copy_from_slice(&self.numbers[..count]);
     }
 
     /// Copies the numbers into a list that can grow.

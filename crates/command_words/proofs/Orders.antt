@@ -1,6 +1,6 @@
 -- Arguments with an order are parsed as that order.
 use Rattle.std.proofs.Common.{◌≡◌, ℕ, ◌<◌, List, [], ◌∷◌, Option, Some, None, Bor, arith, length, map, refl, sym, ap, ◌∙◌, subst, codes}
-use Rattle.std.specs.Prelude.{Bool, true, false, option_map, IsTrue}
+use Rattle.std.specs.Prelude.{Bool, true, false, option_map}
 use Rattle.std.specs.Str.{bytes_eq}
 use Rattle.std.specs.String.{string_bytes}
 use Rattle.std.proofs.Common.{true≢false, Global, String}

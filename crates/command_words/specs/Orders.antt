@@ -1,7 +1,7 @@
 -- Orders of command lines: to answer for one program, as text or as one object; to time its runs, in the same two
 -- ways; to test a program or a folder, or several of both, in the same two ways; to answer for several programs, one
 -- after the other; to draw a run of a program; to tell about its schedules; or to give several answers in one object.
-use Rattle.std.specs.Prelude.{ℕ, ◌≡◌, Bool, true, false, List, [], ◌∷◌, Option, None, Some, IsTrue, codes, map}
+use Rattle.std.specs.Prelude.{ℕ, ◌≡◌, Bool, true, false, List, ◌∷◌, Option, None, Some, codes, map}
 use Rattle.std.specs.String.{string_bytes}
 use Rattle.types.specs.Translation.{budget as budget_of}
 use Rattle.command_line.specs.Requests.{Asked, Asks, Settings, asked_of, settings, spread, usual_telling}
@@ -14,7 +14,8 @@ use Rattle.command_line.specs.declared.request.Command.TheVariants.{Labels, Chec
 use Rattle.command_words.specs.Files.{names_once as asks_once}
 use Rattle.command_words.specs.declared.order.Order.{Order as rOrder}
 use Rattle.command_words.specs.declared.order.Order.TheVariants.{AsText as rAsText, AsObject as rAsObject}
-use Rattle.command_words.specs.declared.order.Order.TheVariants.{Times as rTimes, Tests as rTests, Each as rEach}
+use Rattle.command_words.specs.declared.order.Order.TheVariants.{Times as rTimes, Tests as rTests}
+use Rattle.command_words.specs.declared.order.Order.TheVariants.{Each as rEach}
 use Rattle.command_words.specs.declared.order.Order.TheVariants.{TimesAsObject as rTimesAsObject}
 use Rattle.command_words.specs.declared.order.Order.TheVariants.{TestsEach as rTestsEach}
 use Rattle.command_words.specs.declared.order.Order.TheVariants.{TestsAsObject as rTestsAsObject}

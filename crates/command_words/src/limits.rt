@@ -1,6 +1,6 @@
 //! The options of one test.
 
-ghost use Rattle.std.specs.Prelude.{◌≡◌, ◌∷◌, codes, map, IsSomeAnd};
+ghost use Rattle.std.specs.Prelude.{◌∷◌, codes, map, IsSomeAnd};
 ghost use Rattle.std.specs.String.{string_bytes};
 ghost use Rattle.command_line.specs.Requests.{Asked};
 ghost use Rattle.command_words.specs.Orders.{AreLimitsOf, AsksToTest};

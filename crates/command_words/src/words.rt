@@ -1,9 +1,10 @@
 //! The arguments of a command line.
 
-ghost use Rattle.std.specs.Prelude.{ℕ, ◌≡◌, ◌∷◌, [], List, map, Some, true, false, codes};
+ghost use Rattle.std.specs.Prelude.{◌≡◌, ◌∷◌, [], map, Some, true, false, codes};
 ghost use Rattle.std.specs.Prelude.{IfOk, IsErrAnd, IsOkAnd, IsSomeAnd};
 ghost use Rattle.std.specs.String.{string_bytes};
-ghost use Rattle.command_words.specs.Orders.{AsText, AsObject, Times, TimesAsObject, Tests, Order as OrderIn, Orders};
+ghost use Rattle.command_words.specs.Orders.{AsText, AsObject, Times, TimesAsObject, Tests};
+ghost use Rattle.command_words.specs.Orders.{Order as OrderIn, Orders};
 ghost use Rattle.command_words.specs.Orders.{AsksForObject, AsksToTimeAsObject, IsTested, IsTimed};
 ghost use Rattle.command_words.specs.Orders.{names_once, order as order_said, subject_of};
 ghost use Rattle.command_words.specs.declared.order.Subject.{Subject as SubjectOf};

@@ -1,6 +1,7 @@
 -- The statements of a text's program, as answers name them: `12:11 label 8  async { .. }`.
 use Rattle.std.specs.Prelude.{ℕ, ◌≡◌, ◌+◌, ◌-◌, ◌++◌, Bool, List, [], ◌∷◌, Option, None, Some, codes}
-use Rattle.std.specs.Prelude.{if◌then◌else◌, length, map, nat_eq, option_map, slice_get, slice_index, unwrap_or}
+use Rattle.std.specs.Prelude.{if◌then◌else◌, length, map, nat_eq, option_map, slice_get}
+use Rattle.std.specs.Prelude.{slice_index, unwrap_or}
 use Rattle.std.specs.Fmt.{decimal}
 use Rattle.std.specs.Str.{chars, trim_start}
 use Rattle.std.specs.Str.Lines.{lines}

@@ -1,6 +1,6 @@
 -- From a file and a command to what the program did.
 use Rattle.std.proofs.Common.{◌++◌, codes}
-use Rattle.std.specs.Prelude.{Bool, false}
+use Rattle.std.specs.Prelude.{false}
 use Rattle.std.specs.String.{string_bytes}
 use Rattle.failures.specs.FailureStatus.{failure_status}
 use Rattle.failures.specs.Messages.{failure_text}
@@ -8,7 +8,7 @@ use Rattle.driver.specs.More.{may_follow}
 use Rattle.driver.specs.declared.more.More.{More}
 use Rattle.driver.specs.declared.answered.Answered.{Answered}
 use Rattle.driver.specs.declared.refusal.Refusal.{Refusal}
-use Rattle.std.proofs.Common.{◌≡◌, ℕ, ◌≤◌, List, [], Option, Result, Ok, Err, IfOk, IfErr, sym, subst}
+use Rattle.std.proofs.Common.{◌≡◌, ℕ, List, [], Option, Result, Ok, Err, IfOk, IfErr, sym, subst}
 use Rattle.std.proofs.lemmas.List.{append-nil}
 use Rattle.std.proofs.KnownBytes.{Appends-kept}
 use Rattle.std.specs.Io.KnownBytes.{Keeps}

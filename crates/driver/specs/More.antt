@@ -2,7 +2,7 @@
 use Rattle.std.specs.Prelude.{ℕ, Bool, false, if◌then◌else◌, nat_eq}
 use Rattle.command_line.specs.Requests.{is_explained}
 use Rattle.command_line.specs.declared.request.Action.{Action}
-use Rattle.command_line.specs.declared.request.Action.TheVariants.{Answer, Rewrite}
+use Rattle.command_line.specs.declared.request.Action.TheVariants.{Answer}
 use Rattle.command_line.specs.declared.request.Command.TheVariants.{Check}
 use Rattle.command_line.specs.declared.request.Explain.{Explain}
 use Rattle.command_line.specs.declared.request.Telling.{Telling}

@@ -1,6 +1,6 @@
 //! The whole program, over borrowed files and writers.
 
-ghost use Rattle.std.specs.Prelude.{ℕ, ◌≡◌, ◌≤◌, ◌⊎◌, List, codes, true, false, map, Err};
+ghost use Rattle.std.specs.Prelude.{◌≡◌, ◌≤◌, ◌⊎◌, codes, true, false, map, Err};
 ghost use Rattle.std.specs.String.{string_bytes};
 ghost use Rattle.driver.specs.Acts.{Reports, TellsMistake};
 ghost use Rattle.driver.specs.More.{nothing_more};

@@ -1,7 +1,7 @@
 -- Which events are legal, as the tables and the kinds of next actions show.
-use Rattle.std.proofs.Common.{◌≡◌, ℕ, ◌+◌, ◌-◌, ◌*◌, ◌/◌, ◌≤◌, ◌<◌, length, List, [], ◌∷◌, ◌++◌, Option, Some, None, refl, sym, ap, ◌∙◌, subst, arith}
+use Rattle.std.proofs.Common.{◌≡◌, ℕ, ◌+◌, ◌-◌, ◌*◌, ◌/◌, length, List, [], ◌∷◌, ◌++◌, Option, Some, None, refl, sym, ap, ◌∙◌, subst, arith}
 use Rattle.std.proofs.lemmas.Bool.{and_parts, le-leb, lt-ltb, leb-true, ltb-true, eqb-true, ne_eqb, not-false}
-use Rattle.std.proofs.lemmas.Option.{none-some, same_Some}
+use Rattle.std.proofs.lemmas.Option.{same_Some}
 use Rattle.std.specs.Prelude.{Bool, true, false, ◌&&◌, not, nat_eq, nat_le, map}
 use Rattle.std.specs.HashMap.{get}
 use Rattle.std.specs.Prelude.{Result, Ok, Err, IfErr}
@@ -10,7 +10,7 @@ use Rattle.shared_lemmas.proofs.Truths.{false_true, true_false}
 use Rattle.types.specs.declared.path.Path.{Path}
 use Rattle.types.specs.Translation.{is_path}
 use Rattle.effects.specs.Rounds.{needs_of}
-use Rattle.task_run.specs.OwnRun.{Action, Step, Spawn, EnterFinish, EndFinish, EndTask, Start, last_action}
+use Rattle.task_run.specs.OwnRun.{Action, Step, Spawn, EnterFinish, EndFinish, EndTask, Start}
 use Rattle.task_run.specs.Results.{TaskResult, and_then}
 use Rattle.task_run.specs.Runs.{root}
 use Rattle.task_run.specs.Jobs.{program_of, lists_of, budget_of}
@@ -22,9 +22,8 @@ use Rattle.event_worlds.specs.Events.{did, new_scope, new_task, issue, give_back
 use Rattle.event_worlds.specs.Jobs.{IsWeightedJob}
 use Rattle.event_worlds.specs.NextKinds.{HasHalf, HasNext, IsNextAt, IsNowhere, IsOfKind, NeedsMore, StepsInHand, ends_by, is_open, is_spawn, is_step, waits_by}
 use Rattle.event_worlds.specs.Shown.{AreBoth, IsBookOf, IsLegal, IsTaskOf, Shows, WorldStays, is_scope, next_world, scope_id, stake, whereabouts}
-use Rattle.event_worlds.specs.Walks.{IsIllegal}
 use Rattle.event_worlds.specs.World.{Live, Stake, Scope, ScopeId, World, Queue, Hand, Parked, task, scope, put_task, put_scope, child_path, without_task}
-use Rattle.event_worlds.specs.World.{hand_is_free, hand_of, in_queue, is_parked}
+use Rattle.event_worlds.specs.World.{hand_is_free, in_queue, is_parked}
 use Rattle.event_worlds.specs.declared.next.NextKind.{NextKind}
 use Rattle.event_worlds.specs.declared.next.NextKind.TheVariants.{Step as ToStep, Spawn as ToSpawn, Open as ToOpen, Finish as ToFinish, End as ToEnd}
 use Rattle.event_worlds.specs.declared.scope.WorldScope.{WorldScope as rScope}
@@ -34,7 +33,7 @@ use Rattle.event_worlds.specs.declared.world.World.{World as rWorld}
 use Rattle.event_worlds.proofs.AtEnds.{stands_at}
 use Rattle.event_worlds.proofs.Behind.{leave_with}
 use Rattle.event_worlds.proofs.GoingOn.{ends_are_own}
-use Rattle.event_worlds.proofs.InHand.{InHand, acting, acts, acts_nowhere, does_in, gives_in, in_the_hand, one_first}
+use Rattle.event_worlds.proofs.InHand.{InHand, acting, acts, acts_nowhere, does_in, gives_in, in_the_hand}
 use Rattle.event_worlds.proofs.Lookups.{by_test}
 use Rattle.event_worlds.proofs.Moves.{found}
 use Rattle.event_worlds.proofs.Numbered.{given_path}

@@ -7,7 +7,7 @@ use Rattle.std.proofs.lemmas.Option.{same_Some}
 use Rattle.shared_lemmas.proofs.Truths.{false_true, true_false}
 use Rattle.sections.specs.Place.{Window, has_piece, piece_of}
 use Rattle.types.specs.Code.{Code, Do, If, While, Split, Parts, Begun, Call, Async, Finish, Rescue, Codes, End, Then, Program}
-use Rattle.types.specs.Run.{State, Flow as Going, On, Stopped, Fault, caught, counted, stopped, window_at}
+use Rattle.types.specs.Run.{State, Flow as Going, Stopped, Fault, caught, stopped, window_at}
 use Rattle.types.specs.Value.{Environment}
 use Rattle.effects.specs.Needs.{Needs}
 use Rattle.effects.specs.Rounds.{needs_of}
@@ -15,11 +15,11 @@ use Rattle.statement_steps.specs.Standing.{flow as flow_of}
 use Rattle.statement_steps.proofs.Pieces.{has_none, has_one}
 use Rattle.statement_steps.specs.declared.flow.Flow.{Flow}
 use Rattle.statement_steps.specs.declared.flow.Flow.TheVariants.{On as rOn, Faulted as rFaulted, Stopped as rStopped}
-use Rattle.task_run.specs.Frames.{Frame, Rest, Again, Further, AtEnd, OnFault, Back, Standing, handled, done_at, done_by, done_in, turn, paid, by_flow}
+use Rattle.task_run.specs.Frames.{Frame, Rest, Again, Further, AtEnd, OnFault, Back, Standing, handled, done_at, done_by, done_in, paid, by_flow}
 use Rattle.task_run.specs.Given.{in_truth}
 use Rattle.task_run.specs.OwnRun.{Own, Start, Action, Step, Spawn, EnterFinish, EndFinish, child_of, own_rules, last_action}
 use Rattle.task_run.specs.Results.{Settled}
-use Rattle.task_run.specs.Standings.{ShowsFrame, Stacked, state_of, with_own}
+use Rattle.task_run.specs.Standings.{ShowsFrame, state_of, with_own}
 use Rattle.task_run.specs.Stops.{is_none}
 use Rattle.task_run.specs.declared.frame.TaskFrame.{TaskFrame as rFrame}
 use Rattle.task_run.specs.declared.run.Run.{Run}

@@ -20,7 +20,8 @@ use Rattle.task_run.specs.Jobs.{program_of, lists_of, budget_of}
 use Rattle.task_run.specs.declared.job.Job.{Job}
 use Rattle.event_worlds.specs.World.{Live, child_path}
 use Rattle.event_worlds.specs.declared.doing.TaskProgress.{TaskProgress}
-use Rattle.event_worlds.specs.declared.doing.TaskProgress.TheVariants.{Starts, Runs, Steps, Spawns as rSpawns, Opens}
+use Rattle.event_worlds.specs.declared.doing.TaskProgress.TheVariants.{Starts, Runs, Steps}
+use Rattle.event_worlds.specs.declared.doing.TaskProgress.TheVariants.{Spawns as rSpawns, Opens}
 use Rattle.event_worlds.specs.declared.doing.TaskProgress.TheVariants.{AtFinish, AtEnd as rAtEnd}
 
 -- the start of a live task, the receipts that it has continued with, and the number of its actions

@@ -7,9 +7,11 @@ use Rattle.syntax.specs.declared.error.SyntaxError.TheVariants.{OutOfMemory as M
 use Rattle.types.specs.declared.error.TypeError.TheVariants.{OutOfMemory as MemoryInTypes}
 use Rattle.types.specs.declared.input_error.InputError.TheVariants.{OutOfMemory as MemoryInInput}
 use Rattle.finish_scope.specs.declared.run_error.RunError.TheVariants.{OutOfMemory as MemoryInRun}
-use Rattle.finish_scope.specs.declared.run_error.RunError.TheVariants.{RefusedPush, RefusedThread, IssuedTooOften}
+use Rattle.finish_scope.specs.declared.run_error.RunError.TheVariants.{RefusedPush, RefusedThread}
+use Rattle.finish_scope.specs.declared.run_error.RunError.TheVariants.{IssuedTooOften}
 use Rattle.finish_scope.specs.declared.run_error.RunError.TheVariants.{TooManyTasks, Gather}
-use Rattle.finish_scope.specs.declared.run_error.RunError.TheVariants.{NotDue, NoOwner, NoScope, NoReport, Unlogged}
+use Rattle.finish_scope.specs.declared.run_error.RunError.TheVariants.{NotDue, NoOwner, NoScope}
+use Rattle.finish_scope.specs.declared.run_error.RunError.TheVariants.{NoReport, Unlogged}
 use Rattle.trace_text.specs.declared.error.TraceError.TheVariants.{NoMemory as MemoryInTrace}
 
 -- 4 for running out of memory and for too many tasks, 5 for a result, a weight or events that are

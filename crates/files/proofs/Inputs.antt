@@ -1,5 +1,5 @@
 -- From a JSON text to the input of a source.
-use Rattle.std.proofs.Common.{◌≡◌, ℕ, ℤ, List, Some, refl}
+use Rattle.std.proofs.Common.{ℕ, ℤ, List, Some, refl}
 use Rattle.types.specs.Code.{Array}
 use Rattle.command_line.specs.Requests.{Source, FromBytes, FromFile}
 use Rattle.failures.specs.Failures.{TellsNotUtf8, TellsUnread}

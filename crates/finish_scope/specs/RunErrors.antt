@@ -2,9 +2,11 @@
 use Rattle.std.specs.Prelude.{ℕ, ◌≡◌, ◌≤◌, List, codes, false}
 use Rattle.finish_scope.specs.Inconsistent.{runs_out}
 use Rattle.finish_scope.specs.declared.run_error.RunError.{RunError}
-use Rattle.finish_scope.specs.declared.run_error.RunError.TheVariants.{OutOfMemory, RefusedPush, RefusedThread}
+use Rattle.finish_scope.specs.declared.run_error.RunError.TheVariants.{OutOfMemory, RefusedPush}
+use Rattle.finish_scope.specs.declared.run_error.RunError.TheVariants.{RefusedThread}
 use Rattle.finish_scope.specs.declared.run_error.RunError.TheVariants.{IssuedTooOften, TooManyTasks, Gather}
-use Rattle.finish_scope.specs.declared.run_error.RunError.TheVariants.{NotDue, NoOwner, NoScope, NoReport, Unlogged}
+use Rattle.finish_scope.specs.declared.run_error.RunError.TheVariants.{NotDue, NoOwner, NoScope}
+use Rattle.finish_scope.specs.declared.run_error.RunError.TheVariants.{NoReport, Unlogged}
 
 -- the code that the program prints
 abbrev pub error_code : RunError → List ℕ

@@ -1,11 +1,15 @@
 -- Rows of blocks made from lists of numbers.
 use Rattle.std.proofs.Common.{◌≡◌, ℕ, zero, suc, ◌+◌, ◌-◌, ◌*◌, ◌/◌, ◌%◌, ◌<◌, ◌≤◌, min, List, [], ◌∷◌, ◌++◌, length, get_or, take, drop, map, Vec, Global}
-use Rattle.std.proofs.Common.{Option, None, Bool, true, false, refl, sym, ap, ◌∙◌, arith, rules, option_map, slice_get}
+use Rattle.std.proofs.Common.{Option, Some, None, Bool, true, false, refl, sym, ap, ◌∙◌, arith, rules, subst, option_map, slice_get}
 use Rattle.std.proofs.lemmas.Bool.{eqb-true, eqb-false, ltb-true}
 use Rattle.std.proofs.lemmas.List.{length-append, length-take, take_more}
 use Rattle.std.proofs.lemmas.Option.{slice_get_past}
+use Rattle.std.proofs.lemmas.Bool.Decides.{Decides-int_eq}
+use Rattle.std.proofs.lemmas.Slice.Eq.{slice_eq-Decides}
+use Rattle.std.specs.Cmp.Lexicographic.{pointwise}
 use Rattle.std.specs.List.{slice_range}
-use Rattle.std.specs.Prelude.{ℤ, nat_eq, nat_lt, slice_index_or, if◌then◌else◌}
+use Rattle.std.specs.Ordering.{int_eq}
+use Rattle.std.specs.Prelude.{ℤ, IfSome, nat_eq, nat_lt, slice_index_or, if◌then◌else◌}
 use Rattle.sections.specs.Place.{Place}
 use Rattle.blocks.specs.Numbers.{row_from}
 use Rattle.blocks.specs.Blocks.{held_at}
@@ -14,7 +18,7 @@ use Rattle.blocks.specs.Offsets.{Agree}
 use Rattle.blocks.specs.declared.block.Block.{Block}
 use Rattle.blocks.proofs.RowLemmas.{row_from-before, row_from-behind}
 use Rattle.holdings.specs.Lists.{listed}
-use Rattle.holdings.specs.Rows.{block_in, block_of, held_in_list, held_of, in_row}
+use Rattle.holdings.specs.Rows.{OwnsList, block_in, block_of, held_in_list, held_of, in_row}
 use Rattle.holdings.specs.declared.row.BlockRow.{BlockRow}
 use Rattle.holdings.proofs.CopyLemmas.{block_of-push, held-push}
 use Rattle.holdings.proofs.WritingLemmas.{from_zero}
@@ -54,8 +58,7 @@ pub record IsCutFrom (ns : List ℤ) (xs : List Block) (n : ℕ) : Type 0 where
   pub same : (i k : ℕ) → i < n → k < 256 → held_of (slice_get xs i) k ≡ option_map Owned (slice_get ns (i * 256 + k))
 
 pub cut-more : (ns : List ℤ) (xs : List Block) (n to : ℕ) (b : Block) → IsCutFrom ns xs n → to ≡ min (length ns) (n * 256 + 256)
-    → n * 256 ≤ length ns → Agree (held_at b) (λ k. option_map Owned (slice_get (slice_range ns (n * 256) to) k))
-    → IsCutFrom ns (xs ++ b ∷ []) (n + 1)
+    → n * 256 ≤ length ns → OwnsList b (slice_range ns (n * 256) to) → IsCutFrom ns (xs ++ b ∷ []) (n + 1)
 cut-more ns xs n to b cut end start held = record { long = long; same = same }
   where
     long : length (xs ++ b ∷ []) ≡ n + 1
@@ -65,7 +68,7 @@ cut-more ns xs n to b cut end start held = record { long = long; same = same }
         → (if t then held_at b k else held_of (slice_get xs i) k) ≡ option_map Owned (slice_get ns (i * 256 + k))
     by_eq i k lt small true e =
         let is : n ≡ i = sym cut.long ∙ sym (eqb-true _ _ e) in
-        held k ∙ ap (option_map Owned) (slice_get-part ns (n * 256) to k end start small)
+        held k small ∙ ap (option_map Owned) (slice_get-part ns (n * 256) to k end start small)
         ∙ ap (λ j. option_map Owned (slice_get ns (j * 256 + k))) is
     by_eq i k lt small false e =
         let ne = eqb-false _ _ e in
@@ -73,6 +76,33 @@ cut-more ns xs n to b cut end start held = record { long = long; same = same }
 
     same : (i k : ℕ) → i < n + 1 → k < 256 → held_of (slice_get (xs ++ b ∷ []) i) k ≡ option_map Owned (slice_get ns (i * 256 + k))
     same i k lt small = held-push xs b i k ∙ by_eq i k lt small (nat_eq i (length xs)) refl
+
+-- the last of the blocks has the numbers before the next part
+pub cut-last : (ns : List ℤ) (xs : List Block) (n from : ℕ) → IsCutFrom ns xs n → from ≡ n * 256 - 256 → n * 256 ≤ length ns
+    → IfSome (slice_get xs (length xs - 1)) (λ b. OwnsList b (slice_range ns from (n * 256)))
+cut-last ns [] n from cut is start = tt
+cut-last ns (x ∷ xs) n from cut is start =
+    let at : length xs ≡ length (x ∷ xs) - 1 = omega arith in
+    subst (λ i. IfSome (slice_get (x ∷ xs) i) (λ b. OwnsList b (slice_range ns from (n * 256)))) at
+    (by_last (slice_get (x ∷ xs) (length xs)) refl)
+  where
+    by_last : (o : Option Block) → slice_get (x ∷ xs) (length xs) ≡ o → IfSome o (λ b. OwnsList b (slice_range ns from (n * 256)))
+    by_last None e = tt
+    by_last (Some b) e = λ k small.
+        let long : suc (length xs) ≡ n = cut.long in
+        let at : length xs * 256 ≡ from = omega (arith, long, is) in
+        let end : n * 256 ≡ min (length ns) (from + 256) = omega (arith, long, is, start) in
+        ap (λ o. held_of o k) (sym e) ∙ cut.same (length xs) k (omega (arith, long)) small
+        ∙ ap (λ j. option_map Owned (slice_get ns (j + k))) at
+        ∙ sym (ap (option_map Owned) (slice_get-part ns from (n * 256) k end (omega (arith, end)) small))
+
+-- a block that holds the same as another owns the same numbers
+pub owns-again : (o : Option Block) (last b : Block) (old new : List ℤ) → o ≡ Some last → IfSome o (λ l. OwnsList l old)
+    → pointwise int_eq old new ≡ true → Agree (held_at b) (held_at last) → OwnsList b new
+owns-again o last b old new is owns same alike =
+    let owned : OwnsList last old = subst (λ o. IfSome o (λ l. OwnsList l old)) is owns in
+    let lists : old ≡ new = (slice_eq-Decides Decides-int_eq old new (pointwise int_eq old new) refl).0 same in
+    λ k small. alike k ∙ owned k small ∙ ap (λ (ns : List ℤ). option_map Owned (slice_get ns k)) lists
 
 -- the numbers of all blocks are all of the list
 pub cut-all : (ns : List ℤ) (xs : List Block) (n : ℕ) → IsCutFrom ns xs n → length ns ≤ n * 256 → (k : ℕ)

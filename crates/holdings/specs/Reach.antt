@@ -1,5 +1,6 @@
 -- Where the places of windows are in rows of blocks.
-use Rattle.std.specs.Prelude.{ℕ, ◌≡◌, ◌<◌, ◌≤◌, ◌+◌, ◌*◌, List, Option, Some, None, length, slice_get}
+use Rattle.std.specs.Prelude.{ℕ, ◌≡◌, ◌<◌, ◌≤◌, ◌+◌, ◌*◌, ◌↔◌}
+use Rattle.std.specs.Prelude.{List, Option, Some, None, length, slice_get}
 use Rattle.sections.specs.Place.{Place, Window}
 use Rattle.holdings.specs.declared.row.BlockRow.{BlockRow}
 
@@ -24,3 +25,11 @@ pub record LiesFrom (rs : List BlockRow) (w : Window) (at : ℕ) : Type 0 where
   pub there : slice_get rs w.array ≡ Some row
   pub begins : 256 * row.first + at ≡ w.at
   pub reaches : at + w.length ≤ 256 * length row.blocks.items
+
+-- a window is at no distance: its array has no row, or a row without blocks for all of the window
+abbrev pub LiesNowhere : List BlockRow → Window → Type 0
+LiesNowhere rs w = (at : ℕ) → ¬ (LiesFrom rs w at)
+
+-- windows are at the distances that they were at
+abbrev pub LieAsBefore : (old new : List BlockRow) → Type 0
+LieAsBefore old new = (w : Window) (at : ℕ) → LiesFrom old w at ↔ LiesFrom new w at

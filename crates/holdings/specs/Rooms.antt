@@ -2,7 +2,8 @@
 use Rattle.std.specs.Prelude.{ℕ, ◌≡◌, ⊤, List, Some}
 use Rattle.blocks.specs.Ready.{CanTake}
 use Rattle.blocks.specs.declared.block.Block.{Block}
-use Rattle.blocks.specs.declared.block.Block.TheVariants.{Empty, Mixed, Owned, Shared, WholeOwned, WholeShared}
+use Rattle.blocks.specs.declared.block.Block.TheVariants.{Empty, Mixed, Owned, Shared, WholeOwned}
+use Rattle.blocks.specs.declared.block.Block.TheVariants.{WholeShared}
 use Rattle.holdings.specs.Rows.{block_in, block_of}
 use Rattle.holdings.specs.declared.row.BlockRow.{BlockRow}
 

@@ -1,10 +1,10 @@
 -- What rows of blocks hold.
-use Rattle.std.specs.Prelude.{ℕ, ◌+◌, ◌-◌, ◌*◌, ◌/◌, ◌%◌, ◌≡◌, ◌&&◌, nat_eq, nat_le, Bool, true, List}
-use Rattle.std.specs.Prelude.{slice_get, Option, Some, None, ◌⊎◌, option_and_then, if◌then◌else◌}
+use Rattle.std.specs.Prelude.{ℕ, ℤ, ◌+◌, ◌-◌, ◌*◌, ◌/◌, ◌%◌, ◌<◌, ◌≡◌, ◌&&◌, nat_eq, nat_le, Bool, true, List}
+use Rattle.std.specs.Prelude.{slice_get, Option, Some, None, ◌⊎◌, option_and_then, option_map, if◌then◌else◌}
 use Rattle.sections.specs.Place.{Place}
 use Rattle.blocks.specs.Offsets.{Offsets}
 use Rattle.blocks.specs.Blocks.{held_at}
-use Rattle.blocks.specs.Held.{Held, Map}
+use Rattle.blocks.specs.Held.{Held, Map, Owned}
 use Rattle.blocks.specs.declared.block.Block.{Block}
 use Rattle.holdings.specs.declared.row.BlockRow.{BlockRow}
 use Rattle.holdings.specs.declared.rows.BlockRows.{BlockRows}
@@ -25,6 +25,10 @@ held_of (Some b) k = held_at b k
 -- a block is unchanged, or is a new block that holds nothing
 abbrev pub IsAsBefore : (old new : Option Block) → Type 0
 IsAsBefore old new = (new ≡ old) ⊎ ((old ≡ None) × ((k : ℕ) → held_of new k ≡ None))
+
+-- a block owns the numbers of a list, from its first place on
+abbrev pub OwnsList : Block → List ℤ → Type 0
+OwnsList b ns = (k : ℕ) → k < 256 → held_at b k ≡ option_map Owned (slice_get ns k)
 
 -- what a row holds
 abbrev pub in_row : BlockRow → ℕ → Option Held

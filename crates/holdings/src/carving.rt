@@ -31,7 +31,6 @@ pub struct Carvings {
 }
 
 impl BlockRows {
-    ghost use Rattle.std.specs.Prelude.{◌&&◌, get_or, length};
     ghost use Rattle.holdings.specs.Carvings.{IsCut, IsMovable, IsPiece, IsWhole, StandClear};
     ghost use Rattle.holdings.specs.Carvings.{copied_places, cut_places, moved_places, moves, piece_of};
     ghost use Rattle.holdings.specs.Copied.{IsCoverOf, LiesWithin, as_count, carve_copies, copied_from};

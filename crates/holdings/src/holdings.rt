@@ -19,18 +19,20 @@ pub struct Holdings {
 }
 
 impl Holdings {
-    ghost use Rattle.std.specs.Prelude.{◌≡◌, ◌<◌, ◌↔◌, ℕ, IfErr, IfOk, IfSome, IsSome, IsTrue, None, OnErr, OnOk};
+    ghost use Rattle.std.specs.Prelude.{◌≡◌, ◌<◌, ◌↔◌, IfErr, IfNone, IfOk};
+    ghost use Rattle.std.specs.Prelude.{IfSome, IsSome, IsTrue, None, OnErr, OnOk};
     ghost use Rattle.std.specs.Prelude.{is_some, map, ok_or};
     ghost use Rattle.std.specs.Bool.{OnFalse, OnTrue};
-    ghost use Rattle.sections.specs.Place.{Place as PlainPlace, Window as PlainWindow};
+    ghost use Rattle.sections.specs.Place.{Place as PlainPlace};
     ghost use Rattle.sections.specs.Covers.{has};
     ghost use Rattle.sections.specs.Translation.{place as place_of, window as window_of};
     ghost use Rattle.blocks.specs.Held.{AreApart, IsJustAt, IsThere, Owned, as_owned, as_shared};
-    ghost use Rattle.blocks.specs.Held.{in_place_of, numbers, only, over, owned, put, put_all, without};
+    ghost use Rattle.blocks.specs.Held.{in_place_of, numbers, only, over};
+    ghost use Rattle.blocks.specs.Held.{owned, put, put_all, without};
     ghost use Rattle.holdings.specs.Copied.{CopiesSplit, CountsCarve, CountsPaste};
     ghost use Rattle.holdings.specs.Holdings.{held, listed};
     ghost use Rattle.holdings.specs.Errors.{RefusesPlaces, RefusesOwned};
-    ghost use Rattle.holdings.specs.Reach.{LiesFrom, ReachesTo, place_at};
+    ghost use Rattle.holdings.specs.Reach.{LieAsBefore, LiesFrom, LiesNowhere, ReachesTo, place_at};
     ghost use Rattle.types.specs.Contents.{FitsArrays, read as read_of, row as row_of};
     ghost use Rattle.types.specs.Translation.{input as lists_in};
     ghost use Rattle.types.specs.Typed.{code_of};
@@ -85,7 +87,8 @@ impl Holdings {
     /// Returns how far a window's first place is from the first place for which there is a block of
     /// its array, if there are blocks for all of the window.
     pub fn distance(&self, window: Window) -> Option<usize>
-        ensures { IfSome result (λ at. LiesFrom self.now.rows.list.items (window_of window) at) }
+        ensures found { IfSome result (λ at. LiesFrom self.now.rows.list.items (window_of window) at) }
+        ensures none { IfNone result (LiesNowhere self.now.rows.list.items (window_of window)) }
     {
         self.rows.distance(window)
     }
@@ -111,8 +114,7 @@ impl Holdings {
             (IsSome (owned (held self.old) (place_at self.old.rows.list.items array at))) }
         ensures unchanged { OnFalse result (held self.new ≡ held self.old) }
         ensures copied { self.new.copied ≡ self.old.copied }
-        ensures lies { (w : PlainWindow) (d : ℕ) → LiesFrom self.old.rows.list.items w d
-            → LiesFrom self.new.rows.list.items w d }
+        ensures lie { LieAsBefore self.old.rows.list.items self.new.rows.list.items }
     {
         self.rows.set_at(array, at, value)
     }

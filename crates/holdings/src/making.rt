@@ -1,11 +1,11 @@
 //! Rows of blocks from lists of numbers, and back.
 
-ghost use Rattle.std.specs.Prelude.{◌≡◌, ◌≤◌, ◌<◌, ◌+◌, ◌*◌, ℕ, IfOk, Some, get_or, length, map, pos};
-ghost use Rattle.std.specs.Prelude.{option_map, slice_get, unwrap_or};
+ghost use Rattle.std.specs.Prelude.{◌≡◌, ◌≤◌, ◌<◌, ◌+◌, ◌-◌, ◌*◌, ℕ, IfOk, IfSome, Some};
+ghost use Rattle.std.specs.Prelude.{get_or, length, map, option_map, pos, slice_get, unwrap_or};
 ghost use Rattle.std.specs.List.{All};
 ghost use Rattle.blocks.specs.Held.{Owned, as_owned, number_of, numbers};
 ghost use Rattle.holdings.specs.Lists.{listed};
-ghost use Rattle.holdings.specs.Rows.{held_in, in_row};
+ghost use Rattle.holdings.specs.Rows.{OwnsList, held_in, in_row};
 
 use crate::row::BlockRow;
 use crate::rows::BlockRows;
@@ -51,7 +51,9 @@ impl BlockRow {
         for at in 0..count {
             let from = at * PLACES;
             let to = numbers.len().min(from + PLACES);
-            blocks.push(Block::of_numbers(alloc, &numbers[from..to])?)?;
+            let before = &numbers[from.saturating_sub(PLACES)..from];
+            let block = next_block(alloc, &blocks, before, &numbers[from..to])?;
+            blocks.push(block)?;
         }
         Ok(BlockRow { first: 0, blocks })
     }
@@ -69,4 +71,25 @@ impl BlockRow {
             }
         }
     }
+}
+
+/// Returns the block after the others, which owns the numbers. If the last of the others owns the
+/// same numbers, the two share the memory until one of them is written.
+fn next_block(
+    alloc: Global,
+    blocks: &[Block],
+    before: &[i64],
+    numbers: &[i64],
+) -> Result<Block, AllocError>
+    requires few { length numbers.now ≤ 256 }
+    requires last { IfSome (slice_get blocks.now (length blocks.now - 1))
+        (λ b. OwnsList b before.now) }
+    ensures { IfOk result (λ b. OwnsList b numbers.now) }
+{
+    if let Some(last) = blocks.last()
+        && before == numbers
+    {
+        return last.again(alloc);
+    }
+    Block::of_numbers(alloc, numbers)
 }

@@ -12,7 +12,7 @@ use blocks::block::Block;
 use std::alloc::AllocError;
 
 impl BlockRows {
-    ghost use Rattle.std.specs.Prelude.{ℕ, ◌<◌, ◌≤◌, ◌&&◌, ◌%◌, IsSome, None, Some, List, false, true};
+    ghost use Rattle.std.specs.Prelude.{ℕ, ◌<◌, ◌≤◌, ◌&&◌, ◌%◌, None, Some, List, false, true};
     ghost use Rattle.std.specs.Prelude.{nat_eq, option_map, if◌then◌else◌};
     ghost use Rattle.sections.specs.Covers.{has, is_cover};
     ghost use Rattle.sections.specs.Place.{Place, Window};

@@ -16,9 +16,12 @@ pub struct BlockRow {
 }
 
 impl BlockRow {
-    ghost use Rattle.std.specs.Prelude.{◌≡◌, ◌<◌, ◌≤◌, ◌*◌, ◌/◌, ◌%◌, ◌&&◌, ℕ, IfOk, IfSome, IsSome, IsTrue};
-    ghost use Rattle.std.specs.Prelude.{OnErr, OnOk, Some, None, option_map, pos, unwrap_or};
-    ghost use Rattle.std.specs.Prelude.{false, slice_get, is_some, nat_eq, option_copied, if◌then◌else◌, ◌↔◌};
+    ghost use Rattle.std.specs.Prelude.{◌≡◌, ◌<◌, ◌≤◌, ◌*◌, ◌/◌, ◌%◌};
+    ghost use Rattle.std.specs.Prelude.{◌&&◌, ◌⊎◌, ℕ, IfNone, IfOk, IfSome};
+    ghost use Rattle.std.specs.Prelude.{IsSome, IsTrue, OnErr, OnOk, Some};
+    ghost use Rattle.std.specs.Prelude.{None, option_map, pos, unwrap_or};
+    ghost use Rattle.std.specs.Prelude.{false, slice_get, is_some, nat_eq};
+    ghost use Rattle.std.specs.Prelude.{option_copied, if◌then◌else◌, ◌↔◌};
     ghost use Rattle.std.specs.Bool.{OnFalse, OnTrue};
     ghost use Rattle.blocks.specs.Held.{Owned, in_place_of, number_of, owned_number};
     ghost use Rattle.holdings.specs.Rows.{block_in, held_of, IsAsBefore};
@@ -58,8 +61,10 @@ impl BlockRow {
     /// the row, if the row has blocks for all of them.
     pub fn distance(&self, from: usize, len: usize) -> Option<usize>
         requires { from + len ≤ 4194304 }
-        ensures { IfSome result (λ at. (256 * self.now.first + at ≡ from)
+        ensures found { IfSome result (λ at. (256 * self.now.first + at ≡ from)
             × (at + len ≤ 256 * length self.now.blocks.items)) }
+        ensures none { IfNone result ((from < 256 * self.now.first)
+            ⊎ (256 * (self.now.first + length self.now.blocks.items) < from + len)) }
     {
         let before = self.first * PLACES;
         if from < before || from + len > before + self.blocks.len() * PLACES {

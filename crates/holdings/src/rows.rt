@@ -14,13 +14,14 @@ pub struct BlockRows {
 }
 
 impl BlockRows {
-    ghost use Rattle.std.specs.Prelude.{◌≡◌, ◌<◌, ℕ, IfOk, IfSome, IsSome, IsTrue, OnErr, OnOk, Some, None};
+    ghost use Rattle.std.specs.Prelude.{◌≡◌, ◌<◌, ℕ, IfNone, IfOk, IfSome};
+    ghost use Rattle.std.specs.Prelude.{IsSome, IsTrue, OnErr, OnOk, Some, None};
     ghost use Rattle.std.specs.Prelude.{false, is_some, option_copied};
     ghost use Rattle.std.specs.Bool.{OnFalse, OnTrue};
-    ghost use Rattle.sections.specs.Place.{Place as PlainPlace, Window as PlainWindow};
+    ghost use Rattle.sections.specs.Place.{Place as PlainPlace};
     ghost use Rattle.sections.specs.Translation.{place as place_of, window as window_of};
     ghost use Rattle.types.specs.Contents.{read as read_of};
-    ghost use Rattle.holdings.specs.Reach.{LiesFrom, ReachesTo, place_at};
+    ghost use Rattle.holdings.specs.Reach.{LieAsBefore, LiesFrom, LiesNowhere, ReachesTo, place_at};
     ghost use Rattle.blocks.specs.Held.{Owned, in_place_of, numbers, owned, put};
     ghost use Rattle.holdings.specs.Rows.{Replaces, Widens, block_of, held_in};
 
@@ -83,7 +84,8 @@ impl BlockRows {
     /// Returns how far a window's first place is from the first place of its array's row, if the row
     /// has blocks for all of the window.
     pub fn distance(&self, window: Window) -> Option<usize>
-        ensures { IfSome result (λ at. LiesFrom self.now.list.items (window_of window) at) }
+        ensures found { IfSome result (λ at. LiesFrom self.now.list.items (window_of window) at) }
+        ensures none { IfNone result (LiesNowhere self.now.list.items (window_of window)) }
     {
         match self.list.get(window.array.number) {
             None => None,
@@ -112,8 +114,7 @@ impl BlockRows {
         ensures owned { OnTrue result
             (IsSome (owned (held_in self.old) (place_at self.old.list.items array at))) }
         ensures same { OnFalse result (held_in self.new ≡ held_in self.old) }
-        ensures lies { (w : PlainWindow) (d : ℕ)
-            → LiesFrom self.old.list.items w d → LiesFrom self.new.list.items w d }
+        ensures lie { LieAsBefore self.old.list.items self.new.list.items }
     {
         let row = &mut self.list[array];
         row.set_at(at, value)

@@ -18,7 +18,7 @@ use Rattle.trace_numbers.specs.Faults.{Gathered}
 use Rattle.trace_numbers.specs.Tables.{gathered}
 use Rattle.trace_numbers.specs.declared.summary.TraceSummary.{TraceSummary}
 use Rattle.commands.specs.declared.statements.NamedStatements.{NamedStatements}
-use Rattle.json_answers.specs.Pieces.{list_by, natural, object_of}
+use Rattle.json_answers.specs.Pieces.{natural, object_of}
 use Rattle.json_answers.specs.Statements.{list_of, members_with, numbered, share_json, share_members, shares_json, statement_json}
 use Rattle.json_answers.specs.Statements.{statement_members, statements_json, statements_members, text_json}
 use Rattle.json_answers.specs.Summaries.{finish_json, finish_members, summary_json, summary_members}

@@ -7,7 +7,8 @@ ghost use Rattle.serde_json.specs.View.{view};
 ghost use Rattle.failures.specs.Messages.{failure_text};
 ghost use Rattle.json_answers.specs.Places.{column_of, line_of};
 ghost use Rattle.json_answers.specs.Pieces.{IsReadBack, line, list_by, natural, object_of, or_null};
-ghost use Rattle.json_answers.specs.Refusals.{explained_place, failure_array, failure_code, failure_label, helps_json};
+ghost use Rattle.json_answers.specs.Refusals.{explained_place, failure_array, failure_code};
+ghost use Rattle.json_answers.specs.Refusals.{failure_label, helps_json};
 ghost use Rattle.json_answers.specs.Refusals.{members_with, reason_json, refusal_json};
 
 use crate::line::line_of;

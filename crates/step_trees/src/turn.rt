@@ -13,7 +13,8 @@ ghost use Rattle.statement_steps.specs.Leading.{Body, next_of};
 ghost use Rattle.statement_steps.specs.Standing.{flow as flow_of};
 ghost use Rattle.statement_steps.specs.Turns.{begun};
 ghost use Rattle.step_trees.specs.Translation.{handler_of, leaf_of, next_label, next_code};
-ghost use Rattle.step_trees.specs.Turns.{leaf_in, store_in, becomes_by, Comes, After, IsLoopOf, IsReady, Steps};
+ghost use Rattle.step_trees.specs.Turns.{leaf_in, store_in, becomes_by, Comes, After, IsLoopOf};
+ghost use Rattle.step_trees.specs.Turns.{IsReady, Steps};
 ghost use Rattle.step_trees.specs.Turns.{MayTurn};
 
 use crate::leaf::{Caller, Handler, Leaf, Waiting, done, returned};

@@ -1,28 +1,25 @@
 -- A statement that leads to others does in a run what it does in a task.
-use Rattle.std.proofs.Common.{◌≡◌, ◌≢◌, ℕ, ◌+◌, ◌≤◌, List, [], ◌∷◌, ◌++◌, Ok, Err, Vec, Global, refl, sym, ap, ◌∙◌, subst, arith}
+use Rattle.std.proofs.Common.{◌≡◌, ℕ, ◌+◌, List, [], ◌∷◌, ◌++◌, Ok, Err, Vec, Global, refl, sym, ap, ◌∙◌, subst, arith}
 use Rattle.std.proofs.lemmas.List.{append_assoc, append-nil}
-use Rattle.std.specs.Prelude.{ℤ, Bool, true, false, map, ok_or}
-use Rattle.sections.specs.Place.{Place, Window, sides_of}
+use Rattle.std.specs.Prelude.{Bool, true, false, ok_or}
+use Rattle.sections.specs.Place.{sides_of}
 use Rattle.types.specs.declared.fault.FaultKind.TheVariants.{SplitPoint, PieceSize}
-use Rattle.types.specs.Code.{Code, Codes, Number, Truth, Program, Primitive, Do, If, While, Split, Parts, Begun, Call, Async, Finish, Rescue}
-use Rattle.types.specs.Run.{State, Rules, fault, number_at, numbers_at, truth_at, window_at, entry, with_sides, piece_size, procedure_of}
-use Rattle.types.specs.Translation.{codes, environment, program, truth}
+use Rattle.types.specs.Code.{Code, Codes, Truth, Program, Do, If, While, Split, Parts, Begun, Call, Async, Finish, Rescue}
+use Rattle.types.specs.Run.{State, Rules, number_at, numbers_at, truth_at, window_at, piece_size}
+use Rattle.types.specs.Translation.{program}
 use Rattle.types.specs.Value.{Valued, then_try}
-use Rattle.effects.specs.Needs.{Needs}
-use Rattle.plain_code.specs.Means.{beside}
 use Rattle.statement_steps.specs.declared.next.Next.{Next as rNext}
 use Rattle.statement_steps.specs.declared.next.Next.TheVariants.{Nothing as rNothing, Block as rBlock, Iteration as rIteration}
 use Rattle.statement_steps.specs.declared.next.Next.TheVariants.{Turns as rTurns, Body as rBody}
 use Rattle.statement_steps.specs.declared.thread.Thread.{Thread}
 use Rattle.statement_steps.proofs.Leading.{IsControl}
-use Rattle.statement_steps.specs.Leading.{Next, Nothing, Inside, Iteration, Turns, Body, Led, Leads, by_value, faulted, led, leads_to, next_of}
+use Rattle.statement_steps.specs.Leading.{Next, Nothing, Inside, Iteration, Turns, Body, Led, Leads, by_value, led, leads_to, next_of}
 use Rattle.task_run.specs.Frames.{Frame, Rest, Again, Further, Back, Standing, acted, by_value as valued}
 use Rattle.task_run.specs.Leading.{frames_of}
 use Rattle.task_run.specs.OwnRun.{Own, own_rules}
-use Rattle.task_run.specs.Results.{Settled}
 use Rattle.task_run.specs.RunTurns.{Acts}
-use Rattle.task_run.specs.Standings.{IsAt, Shows, Stacked, state_of, with_own}
-use Rattle.task_run.specs.Translation.{contents_of, owned_by}
+use Rattle.task_run.specs.Standings.{IsAt, Stacked, state_of, with_own}
+use Rattle.task_run.specs.Translation.{contents_of}
 use Rattle.task_run.specs.declared.frame.TaskFrame.{TaskFrame as rFrame}
 use Rattle.task_run.specs.declared.frame.TaskFrame.TheVariants.{Rest as rRest, Again as rAgain, Turns as rFurther, EndCall as rEndCall}
 use Rattle.task_run.specs.declared.memory.TaskMemory.{TaskMemory}

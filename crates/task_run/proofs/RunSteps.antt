@@ -1,23 +1,21 @@
 -- The effect of statements on a run, once their step has been taken.
 use Rattle.std.proofs.Common.{◌≡◌, ◌≢◌, ◌⊎◌, ℕ, zero, suc, ◌+◌, ◌-◌, List, [], ◌∷◌, ◌++◌, Ok, Err, refl, sym, ap, ◌∙◌, subst, inl, inr, arith}
-use Rattle.std.specs.Prelude.{ℤ, Bool, true, false, Option, Result, OnOk}
+use Rattle.std.specs.Prelude.{ℤ, Bool, true, false, Option}
 use Rattle.sections.specs.Place.{Place}
-use Rattle.types.specs.declared.fault.FaultKind.{FaultKind}
 use Rattle.types.specs.Code.{Code, Codes, Number, Truth, Program, Primitive, Skip, Assign, Store, Print, Raise, Do, If, While, Split, Parts, Begun, Call, Async, Finish, Rescue}
-use Rattle.types.specs.Run.{State, Fault, Rules, Flow, On, fault, primitive, number_at, numbers_at, window_at, with_value, put, array_of}
+use Rattle.types.specs.Run.{State, Fault, Rules, Flow, On, primitive, number_at, numbers_at, window_at, with_value, put, array_of}
 use Rattle.types.specs.Run.{counted}
 use Rattle.types.specs.Translation.{program}
-use Rattle.types.specs.Value.{Valued, element_of, holds_number, then_try}
+use Rattle.types.specs.Value.{Valued, element_of, holds_number}
 use Rattle.effects.specs.Needs.{Needs}
 use Rattle.statement_steps.specs.declared.flow.Flow.{Flow as rFlow}
 use Rattle.statement_steps.specs.declared.flow.Flow.TheVariants.{On as rOn, Stopped as rStopped}
 use Rattle.statement_steps.specs.declared.thread.Thread.{Thread}
 use Rattle.statement_steps.specs.Standing.{KeepsTask, flow as flow_of}
-use Rattle.statement_steps.proofs.Steps.{on_ok_both}
-use Rattle.task_run.specs.Frames.{Frame, Standing, by_flow, by_value, acted, handled, done_at, done_by, paid}
+use Rattle.task_run.specs.Frames.{Frame, by_flow, acted, handled, done_at, done_by, paid}
 use Rattle.task_run.specs.OwnRun.{Own, Action, EnterFinish, Spawn, Step, begin_own, child_of, list_child, notes, own_rules}
 use Rattle.task_run.specs.Results.{Settled}
-use Rattle.task_run.specs.RunTurns.{Acts, CanAct, DidAct, DidNext, DoneAs, Going_on, Turns}
+use Rattle.task_run.specs.RunTurns.{Acts, CanAct, DidAct, DidNext, DoneAs}
 use Rattle.task_run.specs.Standings.{IsAt, Shows, ShowsFrame, Stacked, state_of, with_own}
 use Rattle.task_run.specs.Stops.{is_next_over, is_over}
 use Rattle.task_run.specs.Translation.{owned_by}

@@ -1,20 +1,20 @@
 -- Where a task has the elements of windows.
-use Rattle.std.proofs.Common.{◌≡◌, ℕ, ◌+◌, ◌*◌, ◌<◌, List, [], ◌∷◌, ◌++◌, length, Some, None, Bool, true, false, refl, sym, ap, ap₂, ◌∙◌, arith, subst, ◌⊎◌, inl, inr}
+use Rattle.std.proofs.Common.{◌≡◌, ℕ, ◌+◌, ◌*◌, ◌<◌, List, [], ◌∷◌, ◌++◌, length, Some, None, Bool, true, false, refl, sym, ap, ap₂, ◌∙◌, arith, subst, inl, inr}
 use Rattle.std.proofs.lemmas.Bool.{eqb-true, lt-ltb}
 use Rattle.std.proofs.Common.{w64, to_z, of_z, FitsSigned}
 use Rattle.std.proofs.lemmas.Int.{to_z-of_z}
 use Rattle.std.proofs.lemmas.Option.{same_Some, slice_get-get_or}
-use Rattle.std.specs.Prelude.{ℤ, int_lt, nat_abs, nat_eq, nat_lt, negsuc, pos, slice_get, slice_index_or, if◌then◌else◌}
-use Rattle.sections.specs.Place.{Place, Window, place_in}
+use Rattle.std.specs.Prelude.{ℤ, int_lt, nat_abs, nat_eq, negsuc, pos, slice_get, slice_index_or, if◌then◌else◌}
+use Rattle.sections.specs.Place.{Window, place_in}
 use Rattle.sections.specs.Translation.{window}
 use Rattle.sections.specs.declared.window.Window.{Window as rWindow}
-use Rattle.holdings.specs.Reach.{LiesFrom, ReachesTo, begins_at, place_at}
+use Rattle.holdings.specs.Reach.{LieAsBefore, ReachesTo, begins_at, place_at}
 use Rattle.holdings.specs.declared.holdings.Holdings.{Holdings}
 use Rattle.holdings.proofs.WritingLemmas.{slice_get-push}
 use Rattle.serial_run.specs.Runs.{windowed}
 use Rattle.serial_run.specs.declared.spot.Span.{Span}
 use Rattle.serial_run.proofs.Stepping.{windowed_at}
-use Rattle.task_run.specs.Spans.{AreWhere, IsFound, IsWhere}
+use Rattle.task_run.specs.Spans.{AreWhere, IsWhere}
 
 -- ---- the spans of more windows
 
@@ -35,7 +35,7 @@ says-more h ws ss w s lt item here before i t is = by_eq (nat_eq i (length ss)) 
 -- ---- an element whose place is known
 
 pub in_span : (h : Holdings) (w : Window) (s : Span) (i : ℕ) → IsWhere h w s → i < s.len → ReachesTo h.rows.list.items s.row (s.at + i)
-in_span h w s i (inl none) lt = absurd (omega (arith, none, lt))
+in_span h w s i (inl none) lt = absurd (omega (arith, none.0, lt))
 in_span h w s i (inr f) lt = record {
   row = f.lies.row;
   there = ap (slice_get h.rows.list.items) f.row ∙ f.lies.there;
@@ -44,7 +44,7 @@ in_span h w s i (inr f) lt = record {
 
 pub span_element : (h : Holdings) (w : Window) (s : Span) (i : ℕ) → IsWhere h w s → i < s.len
     → place_in w (pos i) ≡ Some (place_at h.rows.list.items s.row (s.at + i))
-span_element h w s i (inl none) lt = absurd (omega (arith, none, lt))
+span_element h w s i (inl none) lt = absurd (omega (arith, none.0, lt))
 span_element h w s i (inr f) lt =
     let rs = h.rows.list.items in
     let inside : i < w.length = omega (arith, f.all, lt) in
@@ -55,7 +55,7 @@ span_element h w s i (inr f) lt =
 
 -- the distance of an element is a number of the machine
 pub span_fits : (h : Holdings) (w : Window) (s : Span) (i : ℕ) → IsWhere h w s → i < s.len → s.at + i < 4194304
-span_fits h w s i (inl none) lt = absurd (omega (arith, none, lt))
+span_fits h w s i (inl none) lt = absurd (omega (arith, none.0, lt))
 span_fits h w s i (inr f) lt = omega (arith, f.lies.reaches, f.all, f.lies.row.within, lt)
 
 -- the span of a section, as it was read
@@ -79,10 +79,10 @@ placed h w s z fits low is lt =
 
 -- ---- rows that begin and end where they did
 
-pub where-kept : (old new : Holdings) → ((w : Window) (d : ℕ) → LiesFrom old.rows.list.items w d → LiesFrom new.rows.list.items w d)
+pub where-kept : (old new : Holdings) → LieAsBefore old.rows.list.items new.rows.list.items
     → (ws : List rWindow) (ss : List Span) → AreWhere old ws ss → AreWhere new ws ss
-where-kept old new lies ws ss are = record { as_many = are.as_many; each = λ i s is. kept (windowed ws i) s (are.each i s is) }
+where-kept old new lie ws ss are = record { as_many = are.as_many; each = λ i s is. kept (windowed ws i) s (are.each i s is) }
   where
     kept : (w : Window) (s : Span) → IsWhere old w s → IsWhere new w s
-    kept w s (inl none) = inl none
-    kept w s (inr f) = inr (record { row = f.row; all = f.all; lies = lies w s.at f.lies })
+    kept w s (inl none) = inl (none.0, λ at l. none.1 at ((lie w at).1 l))
+    kept w s (inr f) = inr (record { row = f.row; all = f.all; lies = (lie w s.at).0 f.lies })

@@ -1,5 +1,6 @@
 -- Tasks that run whole: all tasks below them run in place, and leave one result without children.
-use Rattle.std.specs.Prelude.{ℕ, zero, suc, ◌≡◌, ◌⊎◌, List, [], ◌∷◌, flat_map, Some, Bool, false, if◌then◌else◌}
+use Rattle.std.specs.Prelude.{ℕ, zero, suc, ◌≡◌, ◌⊎◌, List, [], ◌∷◌, flat_map, Some, Bool, false}
+use Rattle.std.specs.Prelude.{if◌then◌else◌}
 use Rattle.types.specs.Code.{Codes, Program}
 use Rattle.types.specs.Meaning.{one}
 use Rattle.types.specs.Run.{State, Block}

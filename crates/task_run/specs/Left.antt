@@ -10,7 +10,8 @@ use Rattle.task_run.specs.declared.frame.TaskFrame.TheVariants.{EndCall}
 use Rattle.task_run.specs.declared.run.Run.{Run}
 use Rattle.task_run.specs.declared.turn.Paused.{Paused}
 use Rattle.task_run.specs.declared.turn.Turn.{Turn}
-use Rattle.task_run.specs.declared.turn.Turn.TheVariants.{Going, Spawns, EntersFinish, EndsFinish, Ended, Over}
+use Rattle.task_run.specs.declared.turn.Turn.TheVariants.{Going, Spawns, EntersFinish, EndsFinish}
+use Rattle.task_run.specs.declared.turn.Turn.TheVariants.{Ended, Over}
 
 -- an upper bound for the number of turns per step, if asyncs may be nested `nest` levels deep: a
 -- child has `fresh` steps of its own, and one nesting level less

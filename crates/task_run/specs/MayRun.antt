@@ -16,7 +16,8 @@ use Rattle.task_run.specs.declared.result.TaskResult.{TaskResult}
 use Rattle.task_run.specs.declared.run.Run.{Run}
 use Rattle.task_run.specs.declared.turn.Paused.{Paused}
 use Rattle.task_run.specs.declared.turn.Turn.{Turn}
-use Rattle.task_run.specs.declared.turn.Turn.TheVariants.{Going, Spawns, EntersFinish, EndsFinish, Ended, Over}
+use Rattle.task_run.specs.declared.turn.Turn.TheVariants.{Going, Spawns, EntersFinish, EndsFinish}
+use Rattle.task_run.specs.declared.turn.Turn.TheVariants.{Ended, Over}
 
 -- the run represents a task of the program, on this input and under this budget
 pub record MayRun (p : Program) (input : List (List ℤ)) (b : Budget) (r : Run) : Type 0 where

@@ -33,7 +33,8 @@ use Rattle.task_run.specs.declared.turn.Paused.{Paused}
 use Rattle.task_run.specs.declared.turn.Step.{Step as rStep}
 use Rattle.task_run.specs.declared.turn.Step.TheVariants.{Did as rDid, AtEnd as rAtEnd}
 use Rattle.task_run.specs.declared.turn.Turn.{Turn}
-use Rattle.task_run.specs.declared.turn.Turn.TheVariants.{Going, Spawns, EntersFinish, EndsFinish, Ended, Over}
+use Rattle.task_run.specs.declared.turn.Turn.TheVariants.{Going, Spawns, EntersFinish, EndsFinish}
+use Rattle.task_run.specs.declared.turn.Turn.TheVariants.{Ended, Over}
 
 -- how frames and a state change
 abbrev pub Going_on : Type 0

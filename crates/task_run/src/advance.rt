@@ -7,7 +7,8 @@ ghost use Rattle.types.specs.Code.{Async, Codes, While};
 ghost use Rattle.types.specs.Meaning.{after_finish};
 ghost use Rattle.types.specs.Run.{State, On, Stopped};
 ghost use Rattle.types.specs.Translation.{program as program_of, truth as truth_of, code as code_of};
-ghost use Rattle.types.specs.Translation.{codes as codes_of, environment as environment_of, fault as fault_of};
+ghost use Rattle.types.specs.Translation.{codes as codes_of, environment as environment_of};
+ghost use Rattle.types.specs.Translation.{fault as fault_of};
 ghost use Rattle.effects.specs.Needs.{Needs};
 ghost use Rattle.holdings.specs.declared.error.HoldError.TheVariants.{OutOfMemory};
 ghost use Rattle.plain_code.specs.Pieces.{IsCodeOfProgram};
@@ -48,7 +49,8 @@ const MOST_FRAMES: usize = 192;
 
 impl<'p> Run<'p> {
     ghost use Rattle.task_run.specs.RunTurns.{CanAct, CanTurn, DidAct, DidNext, DidTurn, GoesOn, HasRoom};
-    ghost use Rattle.task_run.specs.RunTurns.{IsAtEnd, IsEnding, IsStep, IsTurn, NextIsOf, StepsUpTo, below_top};
+    ghost use Rattle.task_run.specs.RunTurns.{IsAtEnd, IsEnding, IsStep, IsTurn, NextIsOf};
+    ghost use Rattle.task_run.specs.RunTurns.{StepsUpTo, below_top};
     ghost use Rattle.task_run.specs.declared.run.Run.{Run as AnyRun};
 
     /// Runs on in place up to the first visible turn, and takes this turn. A turn is visible if it

@@ -1,5 +1,6 @@
 -- The lines in which two texts differ, with up to three equal lines before and after them.
-use Rattle.std.specs.Prelude.{ℕ, ◌+◌, ◌-◌, ◌==◌, ◌||◌, List, [], ◌∷◌, ◌++◌, length, map, reverse, drop, min, nat_lt}
+use Rattle.std.specs.Prelude.{ℕ, ◌+◌, ◌-◌, ◌==◌, ◌||◌, List, [], ◌∷◌, ◌++◌, length, map, reverse}
+use Rattle.std.specs.Prelude.{drop, min, nat_lt}
 use Rattle.std.specs.Prelude.{if◌then◌else◌, slice_range}
 use Rattle.std.specs.List.{common_prefix_len, flat_map, slice_split}
 use Rattle.std.specs.Str.{bytes_eq}

@@ -1,5 +1,6 @@
 -- The expected output of programs, and what is printed about them.
-use Rattle.std.specs.Prelude.{ℕ, zero, suc, ℤ, ◌≡◌, ◌≢◌, ◌+◌, ◌-◌, ◌&&◌, not, Bool, true, false, List, [], ◌∷◌}
+use Rattle.std.specs.Prelude.{ℕ, zero, suc, ℤ, ◌≡◌, ◌≢◌, ◌+◌, ◌-◌, ◌&&◌, not, Bool, true, false}
+use Rattle.std.specs.Prelude.{List, [], ◌∷◌}
 use Rattle.std.specs.Prelude.{if◌then◌else◌, ◌++◌, codes, length, Option, None, Some, Result, Ok, Err}
 use Rattle.std.specs.Prelude.{MatchOption, MatchBool, String}
 use Rattle.std.specs.Fmt.{decimal}

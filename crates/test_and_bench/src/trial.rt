@@ -11,9 +11,11 @@ ghost use Rattle.commands.specs.Outcomes.{Fits};
 ghost use Rattle.files.specs.Held.{BeginsWith, HasText, IsGiven, TellsNoInput, TellsNoText};
 ghost use Rattle.test_and_bench.specs.Trials.{HasLine, HasVerdict, IsBegun, IsCompared, IsJudged, IsLimited};
 ghost use Rattle.test_and_bench.specs.Trials.{IsLineOfOutput, IsLineOfRefusal, IsMessage};
-ghost use Rattle.test_and_bench.specs.Trials.{Fulfils, IsLineOfRun, IsPrinted, IsPrintedSo, IsRefused, IsRefusedAs};
+ghost use Rattle.test_and_bench.specs.Trials.{Fulfils, IsLineOfRun, IsPrinted, IsPrintedSo};
+ghost use Rattle.test_and_bench.specs.Trials.{IsRefused, IsRefusedAs};
 ghost use Rattle.test_and_bench.specs.Trials.{IsUncompared, LacksOptions, TellsNoOptions};
-ghost use Rattle.test_and_bench.specs.Trials.{file as file_of, input_file, judged, settings_of, trial as trial_of};
+ghost use Rattle.test_and_bench.specs.Trials.{file as file_of, input_file, judged, settings_of};
+ghost use Rattle.test_and_bench.specs.Trials.{trial as trial_of};
 
 use crate::listed::Listed;
 use crate::outcomes::Case;

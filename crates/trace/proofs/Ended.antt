@@ -1,5 +1,5 @@
 -- A log whose world has finished.
-use Rattle.std.proofs.Common.{◌≡◌, ℕ, Option, Some, None, Bool, true, ap, ◌∙◌, subst, sym}
+use Rattle.std.proofs.Common.{◌≡◌, Option, Some, None, Bool, true, ap, ◌∙◌, subst, sym}
 use Rattle.std.proofs.lemmas.Bool.{OnTrue_from}
 use Rattle.std.specs.Bool.{OnTrue}
 use Rattle.std.specs.Borrow.{Bor}

@@ -1,6 +1,6 @@
 -- The ends of tasks, event by event.
-use Rattle.std.proofs.Common.{◌≡◌, ℕ, ◌+◌, ◌-◌, List, [], ◌∷◌, Option, None, Some, Bool, true, false, ap, sym, ◌∙◌, refl, drop, length}
-use Rattle.std.specs.Prelude.{cond, nat_eq, option_map, unwrap_or}
+use Rattle.std.proofs.Common.{◌≡◌, ℕ, ◌+◌, ◌-◌, List, [], ◌∷◌, Option, Some, Bool, true, false, ap, sym, ◌∙◌, refl, drop, length}
+use Rattle.std.specs.Prelude.{cond, nat_eq, unwrap_or}
 use Rattle.std.specs.Cmp.Lexicographic.{pointwise}
 use Rattle.types.specs.Translation.{is_path}
 use Rattle.types.specs.declared.path.Path.{Path}

@@ -1,5 +1,5 @@
 -- Tasks after one more event.
-use Rattle.std.proofs.Common.{◌≡◌, ℕ, ◌+◌, ◌≤◌, List, [], ◌∷◌, ◌++◌, length, map, drop, take, get_or, Option, Some, None, Bool, true, false, ap, sym, ◌∙◌, refl, subst, append_assoc, nat_eq}
+use Rattle.std.proofs.Common.{◌≡◌, ℕ, ◌+◌, ◌≤◌, List, [], ◌∷◌, ◌++◌, length, map, drop, take, Option, Some, Bool, true, false, ap, sym, ◌∙◌, refl, append_assoc, nat_eq}
 use Rattle.std.specs.Prelude.{cond, count_by, slice_get, unwrap_or}
 use Rattle.std.specs.Cmp.Lexicographic.{pointwise}
 use Rattle.std.specs.HashMap.{get}

@@ -1,5 +1,6 @@
 -- The tasks that events spawn.
-use Rattle.std.specs.Prelude.{ℕ, ◌≡◌, ◌+◌, List, [], ◌∷◌, ◌++◌, map, Bool, false, true, count_by, drop, take, unwrap_or}
+use Rattle.std.specs.Prelude.{ℕ, ◌≡◌, ◌+◌, List, [], ◌∷◌, ◌++◌, map, Bool, false, true, count_by}
+use Rattle.std.specs.Prelude.{drop, take, unwrap_or}
 use Rattle.std.specs.HashMap.{get}
 use Rattle.types.specs.Translation.{is_path}
 use Rattle.types.specs.declared.path.Path.{Path}

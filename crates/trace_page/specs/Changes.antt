@@ -1,7 +1,6 @@
 -- What events change: weights and books as in the replay, and the values of tasks.
 use Rattle.std.specs.Prelude.{ℕ, ℤ, ◌≡◌, ◌-◌, List, [], ◌∷◌, ◌++◌, Option, Some, None, codes, map}
 use Rattle.serde_json.specs.Data.{Data, boolean, string}
-use Rattle.sections.specs.declared.window.Window.{Window}
 use Rattle.statement_steps.specs.declared.flow.Flow.{Flow}
 use Rattle.statement_steps.specs.declared.flow.Flow.TheVariants.{On, Faulted, Stopped}
 use Rattle.types.specs.Code.{Program}

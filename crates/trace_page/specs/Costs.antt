@@ -4,7 +4,7 @@ use Rattle.serde_json.specs.Data.{Data, null}
 use Rattle.types.specs.Code.{Program}
 use Rattle.types.specs.Outcome.{Budget, Ended, Outcome, Stopped, outcome}
 use Rattle.types.specs.Run.{Fault}
-use Rattle.cost.specs.Accounts.{Account, account_of, span_by_label}
+use Rattle.cost.specs.Accounts.{account_of, span_by_label}
 use Rattle.trace_page.specs.Pieces.{list_by, natural, object_of}
 
 -- the steps at each label, and those of them on the longest chain; the first number is that of no label

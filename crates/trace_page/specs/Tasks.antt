@@ -8,7 +8,7 @@ use Rattle.events.specs.declared.event.Event.{Event as rEvent}
 use Rattle.event_worlds.specs.World.{same_path}
 use Rattle.trace_layout.specs.Rows.{rows_of}
 use Rattle.trace_layout.specs.declared.stretch.Stretch.{Stretch}
-use Rattle.trace_page.specs.Births.{Born, births, root}
+use Rattle.trace_page.specs.Births.{Born, root}
 use Rattle.trace_page.specs.Pieces.{list_by, natural}
 
 -- ---- numbers

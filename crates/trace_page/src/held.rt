@@ -1,7 +1,5 @@
 //! What a task is doing, and the place at which it stores its next number.
 
-ghost use Rattle.std.specs.Prelude.{◌≡◌};
-
 use event_worlds::doing::TaskProgress;
 use holdings::holdings::Holdings;
 use sections::window::Place;

@@ -30,7 +30,8 @@ use Rattle.weighted_task.specs.declared.turn.WeightedResult.{WeightedResult}
 use Rattle.weighted_task.specs.declared.turn.WeightedTurn.{WeightedTurn}
 use Rattle.weighted_task.specs.declared.turn.WholeChild.{WholeChild}
 use Rattle.weighted_task.specs.declared.turn.WholeChild.TheVariants.{Made as ChildMade, Cut, Again}
-use Rattle.weighted_task.specs.declared.turn.WeightedTurn.TheVariants.{Going, Spawns, WantsWeight, EntersFinish}
+use Rattle.weighted_task.specs.declared.turn.WeightedTurn.TheVariants.{Going, Spawns, WantsWeight}
+use Rattle.weighted_task.specs.declared.turn.WeightedTurn.TheVariants.{EntersFinish}
 use Rattle.weighted_task.specs.declared.turn.WeightedTurn.TheVariants.{EndsFinish, Ended, Over}
 use Rattle.weighted_task.specs.declared.turn.Wanting.{Wanting}
 

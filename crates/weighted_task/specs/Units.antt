@@ -3,7 +3,8 @@ use Rattle.std.specs.Prelude.{ℕ, ◌+◌, List, sum_by}
 use Rattle.weighted_task.specs.declared.stake.Stake.{Stake}
 use Rattle.weighted_task.specs.declared.task.Task.{Task}
 use Rattle.weighted_task.specs.declared.turn.WeightedTurn.{WeightedTurn}
-use Rattle.weighted_task.specs.declared.turn.WeightedTurn.TheVariants.{Going, Spawns, WantsWeight, EntersFinish}
+use Rattle.weighted_task.specs.declared.turn.WeightedTurn.TheVariants.{Going, Spawns, WantsWeight}
+use Rattle.weighted_task.specs.declared.turn.WeightedTurn.TheVariants.{EntersFinish}
 use Rattle.weighted_task.specs.declared.turn.WeightedTurn.TheVariants.{EndsFinish, Ended, Over}
 
 -- in several scopes

@@ -23,8 +23,7 @@ use Rattle.tickets.specs.declared.word.Seat.{Seat}
 use Rattle.tickets.specs.declared.word.Tickets.{Tickets}
 use Rattle.workers.specs.Causes.{HasDrawn, HasTicket, HasTicketFrom, IsReason}
 use Rattle.workers.specs.Words.{IsFresh}
-use Rattle.workers.specs.WorkerStates.{AreBelow, DrawsForEach, EndsRun, Fails, HasSeat, TellTogether, Tells}
-use Rattle.workers.specs.declared.worker.Report.{Report}
+use Rattle.workers.specs.WorkerStates.{AreBelow, DrawsForEach, EndsRun, Fails, HasSeat, TellTogether}
 
 -- ---- one seat
 

@@ -21,9 +21,11 @@ use Rattle.finish_scope.specs.declared.causes.Ownerless.{Ownerless}
 use Rattle.finish_scope.specs.declared.causes.Spent.{Spent}
 use Rattle.finish_scope.specs.declared.causes.Undue.{Undue}
 use Rattle.finish_scope.specs.declared.scope_table.FindError.{FindError}
-use Rattle.finish_scope.specs.declared.scope_table.FindError.TheVariants.{OutOfMemory as NoCount, NoScope as EmptySlot}
+use Rattle.finish_scope.specs.declared.scope_table.FindError.TheVariants.{OutOfMemory as NoCount}
+use Rattle.finish_scope.specs.declared.scope_table.FindError.TheVariants.{NoScope as EmptySlot}
 use Rattle.finish_scope.specs.declared.settling.SettleError.{SettleError}
-use Rattle.finish_scope.specs.declared.settling.SettleError.TheVariants.{OutOfMemory as NoMemory, Inconsistent}
+use Rattle.finish_scope.specs.declared.settling.SettleError.TheVariants.{OutOfMemory as NoMemory}
+use Rattle.finish_scope.specs.declared.settling.SettleError.TheVariants.{Inconsistent}
 use Rattle.finish_scope.specs.declared.late.Reason.{Reason}
 use Rattle.finish_scope.specs.declared.late.Reason.TheVariants.{NotDue as L1, IssuedTooOften as L2}
 use Rattle.workers.specs.declared.error.Trouble.{Trouble}

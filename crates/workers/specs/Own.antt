@@ -17,7 +17,8 @@ use Rattle.weighted_task.specs.declared.task.Child.{Child}
 use Rattle.weighted_task.specs.declared.task.Task.{Task}
 use Rattle.weighted_task.specs.declared.turn.WeightedResult.{WeightedResult}
 use Rattle.weighted_task.specs.declared.turn.WeightedTurn.{WeightedTurn}
-use Rattle.weighted_task.specs.declared.turn.WeightedTurn.TheVariants.{Going, Spawns, WantsWeight, EntersFinish}
+use Rattle.weighted_task.specs.declared.turn.WeightedTurn.TheVariants.{Going, Spawns, WantsWeight}
+use Rattle.weighted_task.specs.declared.turn.WeightedTurn.TheVariants.{EntersFinish}
 use Rattle.weighted_task.specs.declared.turn.WeightedTurn.TheVariants.{EndsFinish, Ended, Over}
 use Rattle.weighted_task.specs.declared.turn.Wanting.{Wanting}
 use Rattle.weighted_task.specs.declared.turn.WholeChild.{WholeChild}

@@ -1,5 +1,6 @@
 -- The seats and reports of workers.
-use Rattle.std.specs.Prelude.{ℕ, ◌≡◌, ◌+◌, ◌≤◌, List, Option, None, Some, Ok, All, length, IfErr, IfOk, IfSome}
+use Rattle.std.specs.Prelude.{ℕ, ◌≡◌, ◌+◌, ◌≤◌, List, Option, None, Some, Ok, All, length, IfErr}
+use Rattle.std.specs.Prelude.{IfOk, IfSome}
 use Rattle.types.specs.Translation.{outcome as outcome_in}
 use Rattle.task_run.specs.Jobs.{outcome_of}
 use Rattle.task_run.specs.declared.job.Job.{Job}

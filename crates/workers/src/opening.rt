@@ -1,6 +1,6 @@
 //! The state before a run.
 
-ghost use Rattle.std.specs.Prelude.{◌≡◌, ◌+◌, ◌↔◌, All, IfErr, IfOk, IsSome, OnOk, Some, vec_len};
+ghost use Rattle.std.specs.Prelude.{◌≡◌, ◌+◌, ◌↔◌, All, IfErr, IfOk, IsSome, Some, vec_len};
 ghost use Rattle.task_run.specs.Jobs.{IsJob};
 ghost use Rattle.tickets.specs.Seats.{seats_of};
 ghost use Rattle.workers.specs.Causes.{Happens};

@@ -1,4 +1,4 @@
-use Rattle.std.proofs.Common.{arith, refl, ◌∙◌}
+use Rattle.std.proofs.Common.{arith, ◌∙◌}
 use Rattle.driver.proofs.SeveralFiles.{none_acted, one_more}
 use Rattle.driver.proofs.several.do_with_each.Goals as goal
 

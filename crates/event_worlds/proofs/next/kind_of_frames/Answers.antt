@@ -1,4 +1,4 @@
-use Rattle.std.proofs.Common.{◌≡◌, ◌∷◌, ◌++◌, [], ◌-◌, suc, take, ◌∙◌, arith, ap, sym}
+use Rattle.std.proofs.Common.{◌≡◌, ◌-◌, take, ◌∙◌, arith, ap, sym}
 use Rattle.types.specs.Translation.{environment}
 use Rattle.event_worlds.specs.NextKinds.{top_does}
 use Rattle.event_worlds.proofs.NextKinds.{acts_now, ends_now, left_below, taken_last}

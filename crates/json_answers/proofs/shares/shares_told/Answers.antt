@@ -1,7 +1,7 @@
 use Rattle.std.proofs.Common.{ap, ◌∙◌, false, map, refl, sym, subst, string_bytes}
-use Rattle.std.proofs.lemmas.Result.{IfOk-at_ok, IfOk-weaker}
+use Rattle.std.proofs.lemmas.Result.{IfOk-weaker}
 use Rattle.types.specs.Outcome.{outcome}
-use Rattle.types.specs.Translation.{array, input as lists_of, outcome as outcome_of}
+use Rattle.types.specs.Translation.{array, input as lists_of}
 use Rattle.types.specs.Typed.{code_of}
 use Rattle.command_line.specs.Requests.{settings}
 use Rattle.cost.specs.Accounts.{account_of, span_by_label}

@@ -1,10 +1,10 @@
-use Rattle.std.proofs.Common.{◌≡◌, ◌∙◌, ◌++◌, List, ap, map}
+use Rattle.std.proofs.Common.{◌∙◌, ◌++◌, List, ap, map}
 use Rattle.serde_json.specs.Data.{Data, array}
 use Rattle.serde_json.specs.View.{items_of, view}
 use Rattle.serde_json.specs.declared.value.Value.{Value}
 use Rattle.serde_json.proofs.Views.{view-Array}
 use Rattle.events.specs.Events.{event}
-use Rattle.trace_page.specs.Changes.{change_json, changes_json, weight_json, weights_told}
+use Rattle.trace_page.specs.Changes.{change_json, weight_json, weights_told}
 use Rattle.trace_page.specs.declared.changes.ValueChange.{ValueChange}
 use Rattle.trace_page.specs.declared.changes.WeightChange.{WeightChange}
 use Rattle.trace_page.proofs.moments.changes_of.Goals as goal

@@ -1,4 +1,4 @@
-use Rattle.std.proofs.Common.{◌≡◌, ◌∙◌, List, ap, map, subst}
+use Rattle.std.proofs.Common.{◌∙◌, List, ap, map, subst}
 use Rattle.std.proofs.lemmas.Result.{IfOk-weaker}
 use Rattle.serde_json.specs.Data.{Data}
 use Rattle.serde_json.specs.View.{view}
@@ -6,7 +6,7 @@ use Rattle.syntax.specs.declared.place.TextPlace.{TextPlace}
 use Rattle.trace_layout.specs.declared.finishes.Finish.{Finish}
 use Rattle.trace_page.specs.Births.{Born, birth}
 use Rattle.trace_page.specs.Layouts.{AreFinishRows}
-use Rattle.trace_page.specs.Pages.{layout_json, parts_json, program_json, tasks_of, trace_json, traced}
+use Rattle.trace_page.specs.Pages.{layout_json, program_json, tasks_of, trace_json, traced}
 use Rattle.trace_page.specs.Tasks.{AreTaskRows, tasks_json}
 use Rattle.trace_page.proofs.Parts.{same_parts}
 use Rattle.trace_page.proofs.page.data_value.Goals as goal

@@ -1,5 +1,5 @@
-use Rattle.std.proofs.Common.{◌≡◌, ◌∙◌, ◌∷◌, ◌+◌, List, ap, drop, refl, sym, subst, take_all}
-use Rattle.std.proofs.lemmas.List.{drop_all, drop_more}
+use Rattle.std.proofs.Common.{◌∙◌, ◌∷◌, ◌+◌, List, ap, drop, refl, sym, subst, take_all}
+use Rattle.std.proofs.lemmas.List.{drop_more}
 use Rattle.serde_json.specs.Data.{array}
 use Rattle.serde_json.specs.View.{items_of}
 use Rattle.serde_json.proofs.Views.{view-Array}
@@ -8,7 +8,6 @@ use Rattle.events.specs.declared.event.Event.{Event}
 use Rattle.event_worlds.specs.Replay.{start_of}
 use Rattle.event_worlds.specs.Replaying.{event}
 use Rattle.event_worlds.specs.Shown.{Shows, next_world}
-use Rattle.event_worlds.specs.World.{World}
 use Rattle.event_worlds.proofs.Replaying.{left_comes, stops_at}
 use Rattle.trace_page.specs.Changes.{AreTold}
 use Rattle.serde_json.specs.declared.value.Value.{Value}

@@ -1,8 +1,7 @@
-use Rattle.std.proofs.Common.{◌∙◌, ℕ, List, Option, None, Some, Bool, ap, sym}
+use Rattle.std.proofs.Common.{◌∙◌, ℕ, List, Option, Some, Bool, ap, sym}
 use Rattle.std.specs.Prelude.{cond, option_map}
 use Rattle.std.specs.HashMap.{get}
 use Rattle.types.specs.Translation.{is_path}
-use Rattle.types.specs.declared.path.Path.{Path}
 use Rattle.trace_page.specs.Tasks.{is_path_of}
 use Rattle.trace_page.proofs.Ends.{by_copy}
 use Rattle.trace_page.proofs.tasks.put_end.Goals as goal

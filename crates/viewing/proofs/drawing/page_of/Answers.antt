@@ -1,4 +1,4 @@
-use Rattle.std.proofs.Common.{ℕ, List, string_bytes, subst}
+use Rattle.std.proofs.Common.{List, string_bytes, subst}
 use Rattle.events.specs.declared.event.Event.{Event}
 use Rattle.trace_page.specs.Pages.{IsPage}
 use Rattle.viewing.specs.Views.{traced_of}

@@ -1,4 +1,4 @@
-use Rattle.std.proofs.Common.{◌≡◌, ℕ, List, ap, refl, subst, sym}
+use Rattle.std.proofs.Common.{ℕ, List, ap, refl, subst, sym}
 use Rattle.std.proofs.lemmas.Result.{IfOk-at_ok}
 use Rattle.types.specs.Translation.{input as lists_in}
 use Rattle.types.specs.Typed.{code_of}

@@ -1,10 +1,8 @@
-use Rattle.std.proofs.Common.{◌≡◌, List, sym, subst}
+use Rattle.std.proofs.Common.{◌≡◌, sym, subst}
 use Rattle.std.specs.Prelude.{IfErr, IfOk, IfSome, Some}
 use Rattle.types.specs.Translation.{outcome}
-use Rattle.types.specs.declared.outcome.Outcome.{Outcome}
 use Rattle.task_run.specs.Jobs.{outcome_of}
 use Rattle.tickets.specs.Seats.{drawn_of}
-use Rattle.tickets.specs.declared.word.Seat.{Seat}
 use Rattle.workers.specs.WorkerStates.{AreBelow, Fails, TellTogether}
 use Rattle.workers.proofs.Draws.{tell_err, tell_ok}
 use Rattle.workers.proofs.reports.add.Goals as goal

@@ -1,4 +1,3 @@
-use Rattle.std.proofs.Common.{sym}
 use Rattle.std.proofs.lemmas.Bool.{OnFalse_at, OnTrue_at}
 use Rattle.std.proofs.lemmas.Result.{IfErr-weaker}
 use Rattle.event_worlds.proofs.Staying.{stays_self}

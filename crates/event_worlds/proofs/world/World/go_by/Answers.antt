@@ -4,7 +4,7 @@ use Rattle.std.specs.Prelude.{IfErr, OnOk}
 use Rattle.event_worlds.specs.Replaying.{event}
 use Rattle.event_worlds.specs.declared.error.EventError.TheVariants.{NoMemory}
 use Rattle.event_worlds.specs.Shown.{Becomes, IsLegal}
-use Rattle.std.proofs.lemmas.Bool.{OnFalse_at, OnTrue_at}
+use Rattle.std.proofs.lemmas.Bool.{OnTrue_at}
 use Rattle.event_worlds.proofs.Judging.{err_any}
 use Rattle.event_worlds.proofs.LookingAhead.{becomes_then, illegal_by, illegal_then, still_world}
 use Rattle.event_worlds.proofs.world.World.go_by.Goals as goal

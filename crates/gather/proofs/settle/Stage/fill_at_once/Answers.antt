@@ -6,7 +6,7 @@ use Rattle.types.specs.declared.path.Path.{Path}
 use Rattle.task_run.specs.Translation.{listed, settled, task_result, owned_by}
 use Rattle.gather.specs.Left.{left}
 use Rattle.gather.specs.Parts.{comes_to, filled}
-use Rattle.gather.specs.Reached.{IsOwnCase, IsReached, used_by, used_with}
+use Rattle.gather.specs.Reached.{IsOwnCase, IsReached, used_with}
 use Rattle.gather.specs.Refusal.{Refuses}
 use Rattle.gather.specs.Stages.{gathering_with, part, waiting}
 use Rattle.gather.specs.declared.filling.WaitingResult.{WaitingResult as rWaiting}

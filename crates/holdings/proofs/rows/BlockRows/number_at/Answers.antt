@@ -1,4 +1,4 @@
-use Rattle.std.proofs.Common.{Option, ◌∙◌, ◌≡◌, ap, rules, sym, w64, FitsSigned}
+use Rattle.std.proofs.Common.{Option, ◌∙◌, ap, rules, sym, w64, FitsSigned}
 use Rattle.std.proofs.lemmas.Int.{to_z-of_z}
 use Rattle.std.specs.Prelude.{option_map, pos, unwrap_or}
 use Rattle.blocks.specs.Held.{Held, number_of}

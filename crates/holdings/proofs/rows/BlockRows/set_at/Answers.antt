@@ -1,11 +1,11 @@
-use Rattle.std.proofs.Common.{◌∙◌, ◌≡◌, ℕ, Option, IsSome, Some, ap₂, subst, sym, w64, of_z, to_z}
+use Rattle.std.proofs.Common.{◌∙◌, Option, IsSome, Some, ap₂, subst, sym, w64, of_z, to_z}
 use Rattle.std.proofs.lemmas.Bool.{OnFalse_at, OnFalse_from, OnTrue_at, OnTrue_from}
 use Rattle.std.specs.Bool.{OnTrue}
 use Rattle.std.specs.Prelude.{◌&&◌, nat_eq, if◌then◌else◌}
 use Rattle.blocks.specs.Held.{Held, Owned, owned_number}
 use Rattle.holdings.specs.Reach.{place_at}
 use Rattle.holdings.specs.Rows.{block_in, held_of}
-use Rattle.holdings.proofs.ReachLemmas.{lies-set, place-block, place-held, place-offset, within-list}
+use Rattle.holdings.proofs.ReachLemmas.{lie-set, place-block, place-held, place-offset, within-list}
 use Rattle.holdings.proofs.WritingLemmas.{rows-alike, rows-put}
 use Rattle.holdings.proofs.rows.BlockRows.set_at.Goals as goal
 
@@ -35,8 +35,8 @@ returns-clause-same c =
     rows-alike rs a c.index_mut-row.result.now c.set_at.new.self (within-list rs a c.requires.row c.requires.there)
     c.index_mut-row.ensures.value (OnFalse_at no c.set_at.ensures.same))
 
-pub returns-clause-lies : goal.returns-clause-lies
-returns-clause-lies c =
+pub returns-clause-lie : goal.returns-clause-lie
+returns-clause-lie c =
     let rs = c.args.self.now.list.items in let a = c.args.array in
-    lies-set rs a c.index_mut-row.result.now (within-list rs a c.requires.row c.requires.there) c.index_mut-row.ensures.value
+    lie-set rs a c.index_mut-row.result.now (within-list rs a c.requires.row c.requires.there) c.index_mut-row.ensures.value
     c.set_at.new.self c.set_at.ensures.first c.set_at.ensures.length

@@ -1,4 +1,4 @@
-use Rattle.std.proofs.Common.{◌≡◌, ◌∙◌, ap, arith, rules, sym, w64, to_z, of_z, FitsSigned, Ok}
+use Rattle.std.proofs.Common.{◌∙◌, ap, arith, rules, sym, w64, to_z, of_z, FitsSigned, Ok}
 use Rattle.std.proofs.lemmas.Int.{to_z-of_z}
 use Rattle.std.specs.Prelude.{nat_abs, ok_or}
 use Rattle.types.specs.Contents.{read}

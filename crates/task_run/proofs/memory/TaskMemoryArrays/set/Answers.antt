@@ -8,10 +8,9 @@ use Rattle.types.specs.Contents.{write}
 use Rattle.holdings.specs.Held.{Held, Map, Owned, numbers, owned, put}
 use Rattle.holdings.specs.Holdings.{held}
 use Rattle.holdings.specs.Reach.{place_at}
-use Rattle.serial_run.specs.Writes.{WritesElement}
 use Rattle.serial_run.specs.declared.spot.Span.{Span}
 use Rattle.task_run.proofs.HeldPlaces.{numbers-put, owned-put, owns}
-use Rattle.task_run.proofs.SpanLemmas.{in_span, placed, span_at, span_fits}
+use Rattle.task_run.proofs.SpanLemmas.{in_span, placed, span_at, span_fits, where-kept}
 use Rattle.task_run.proofs.memory.TaskMemoryArrays.set.Goals as goal
 
 -- the set of owned places is unchanged, whether the place was written or not
@@ -54,3 +53,6 @@ returns-clause-shape c =
     let s : Span = slice_index_or c.args.spans.now c.args.section (record { row = 0; at = 0; len = 0 }) in
     stays_owned c.set_at.result (place_at h.rows.list.items s.row (s.at + nat_abs (to_z w64 (of_z w64 c.args.index)))) _ (held h)
     (held c.set_at.new.self) c.set_at.ensures.written c.set_at.ensures.owned c.set_at.ensures.unchanged
+
+pub returns-clause-finds : goal.returns-clause-finds
+returns-clause-finds c = where-kept c.args.self.now.holdings c.set_at.new.self c.set_at.ensures.lie
