@@ -179,6 +179,7 @@ def files(tests):
     odd_names(tests)
     changing(tests)
     rewritten(tests)
+    grown(tests)
     same_names(tests)
     formatted_links(tests)
     over_own_files(tests)
@@ -196,6 +197,15 @@ def rewritten(tests):
     tests.expect(["fmt", "mode.afx", "--write"], 0, "")
     good = path.read_bytes() == b"main {\n}\n" and path.stat().st_mode & 0o777 == 0o750
     tests.judge("fmt --write keeps the mode", None if good and set(os.listdir(tests.room)) == there else str(path.stat()))
+
+
+def grown(tests):
+    """`fmt --write`: a text that would become too long for a program stays as it is."""
+    text = "main {\n" + "if 1 < 2 {\n" * 90 + "skip;\n" * 6000 + "}\n" * 91
+    path = tests.room / tests.file("deep.afx", text)
+    tests.expect(["check", "deep.afx"], 0, None)
+    tests.expect(["fmt", "deep.afx", "--write"], 1, "", "cannot write deep.afx\n")
+    tests.judge("fmt --write leaves a text that would grow too long", None if path.read_text() == text else "it was written")
 
 
 def fifos(tests):

@@ -57,58 +57,87 @@ fn tests_behind<'w>(behind: &'w [String], fewest: usize) -> Option<SeveralTests<
     })
 }
 
-/// Returns the action for several files, which come after the reporting options and `--warn` of
-/// `check` or an option of `fmt`. The standard input isn't one of several files.
+/// An option of `check` or `fmt` that several files can follow.
+#[derive(Clone, Copy)]
+pub enum OwnOption {
+    /// `--warn` of `check`
+    Warn,
+    /// `--check` of `fmt`
+    Compare,
+    /// `--write` of `fmt`
+    Write,
+}
+
+/// Returns the action for several files. They come after the reporting options and an option of the
+/// command itself, which can stand before or after those. The standard input isn't one of several
+/// files.
 fn several_behind<'w>(command: &str, behind: &'w [String]) -> Option<Several<'w>> {
+    let (first, behind) = own_option_in(command, behind);
     let (manner, behind) = manner_in(behind)?;
-    let mut telling = manner.telling();
-    let (warns, behind) = warns_in(command, behind);
-    if warns {
-        telling.warn = Explain::Always;
-    }
-    let (action, files) = action_in(command, behind)?;
+    let (last, files) = own_option_in(command, behind);
     if files.len() < 2 || !are_files(files) {
         return None;
     }
+    let own = one_of(first, last)?;
+    let mut telling = manner.telling();
+    if let Some(OwnOption::Warn) = own {
+        telling.warn = Explain::Always;
+    }
     Some(Several {
-        action,
+        action: action_by(command, own)?,
         files,
         telling,
     })
 }
 
-/// Returns whether `check` warns about each program, and the arguments after this option.
-fn warns_in<'w>(command: &str, behind: &'w [String]) -> (bool, &'w [String]) {
-    if command == "check" {
-        take_flag("--warn", behind)
-    } else {
-        (false, behind)
+/// Returns the option that was given, if at most one was.
+fn one_of(first: Option<OwnOption>, last: Option<OwnOption>) -> Option<Option<OwnOption>> {
+    match (first, last) {
+        (Some(_), Some(_)) => None,
+        (Some(own), None) => Some(Some(own)),
+        (None, own) => Some(own),
     }
 }
 
-/// Returns the action of a command, and the arguments after its option.
-fn action_in<'w>(command: &str, behind: &'w [String]) -> Option<(Action, &'w [String])> {
+/// Returns the option of a command that comes first, and the arguments after it.
+fn own_option_in<'w>(command: &str, words: &'w [String]) -> (Option<OwnOption>, &'w [String]) {
     if command == "check" {
-        Some((Action::Answer(Command::Check), behind))
-    } else if command == "fmt" {
-        Some(formatting_in(behind))
+        return flag_in("--warn", OwnOption::Warn, words);
+    }
+    let (compares, others) = flag_in("--check", OwnOption::Compare, words);
+    if compares.is_some() {
+        return (compares, others);
+    }
+    flag_in("--write", OwnOption::Write, words)
+}
+
+/// Returns this option if it comes first, and the arguments after it.
+fn flag_in<'w>(
+    flag: &str,
+    own: OwnOption,
+    words: &'w [String],
+) -> (Option<OwnOption>, &'w [String]) {
+    let (is_given, others) = take_flag(flag, words);
+    if is_given {
+        (Some(own), others)
     } else {
-        None
+        (None, words)
     }
 }
 
-/// Returns the action of `fmt`, and the arguments after its option.
-fn formatting_in<'w>(behind: &'w [String]) -> (Action, &'w [String]) {
-    let (checks, others) = take_flag("--check", behind);
-    if checks {
-        return (Action::Answer(Command::CheckFormat), others);
+/// Returns the action of a command with an option of its own.
+fn action_by(command: &str, own: Option<OwnOption>) -> Option<Action> {
+    if command == "check" {
+        return Some(Action::Answer(Command::Check));
     }
-    let (writes, others) = take_flag("--write", behind);
-    if writes {
-        (Action::Rewrite, others)
-    } else {
-        (Action::Answer(Command::Format), others)
+    if command != "fmt" {
+        return None;
     }
+    Some(match own {
+        Some(OwnOption::Compare) => Action::Answer(Command::CheckFormat),
+        Some(OwnOption::Write) => Action::Rewrite,
+        _ => Action::Answer(Command::Format),
+    })
 }
 
 /// Returns whether each argument names a file other than the standard input.

@@ -168,7 +168,7 @@ pub fn run_explanation<F: FileSource>(
         return Ok(String::new(alloc));
     }
     match budget_of(command, question.settings, status) {
-        None => without_run(alloc, file, command, status),
+        None => without_run(alloc, file, command, question.settings, status),
         Some(budget) => run_again(alloc, files, file, question, budget),
     }
 }
@@ -178,10 +178,11 @@ fn without_run(
     alloc: Global,
     file: &str,
     command: Command,
+    settings: RunOptions<'_>,
     status: u8,
 ) -> Result<String, AllocError> {
     match command {
-        Command::Explore if status == 3 => open_explained(alloc, file),
+        Command::Explore if status == 3 => open_explained(alloc, file, settings.choices),
         _ => Ok(String::new(alloc)),
     }
 }

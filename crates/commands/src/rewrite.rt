@@ -12,8 +12,12 @@ use layout::laid_out;
 use std::alloc::Global;
 use std::io::Write;
 
+/// The greatest number of bytes of a program.
+const MOST_BYTES: usize = 1048576;
+
 /// Writes the text of a program into its file in the canonical layout, even if it breaks rules. A
-/// text that is already formatted isn't written, to preserve the modification time of its file.
+/// text that is already formatted isn't written, to preserve the modification time of its file. Nor
+/// is a text that would be too long for a program: deep blocks are indented, so a text can grow.
 pub fn rewrite<F: FileSource, O: Write>(
     alloc: Global,
     file: &str,
@@ -29,6 +33,9 @@ pub fn rewrite<F: FileSource, O: Write>(
     let laid = or_no_memory(laid_out(alloc, text))?;
     if laid.as_str() == text {
         return answer(out, "");
+    }
+    if laid.len() > MOST_BYTES {
+        return Err(Failure::cannot_write(alloc, file));
     }
     write_file(alloc, files, file, laid.as_bytes())?;
     answer(out, "")

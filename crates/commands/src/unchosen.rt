@@ -30,6 +30,12 @@ help: add choices, or let `--random 1` choose until the end.
 More: `afx explain open`.
 ";
 
+const DRAWN: &str =
+    "1000000 random choices have not ended the run: this many tasks can still take a step.
+help: look for a loop that doesn't end, or give the program a smaller input.
+More: `afx explain open`.
+";
+
 /// Explains which entry of a list or of a file is not a choice, and what a choice is.
 pub fn choices_explained<F: FileSource>(
     alloc: Global,
@@ -154,6 +160,14 @@ pub fn no_leaf_explained(alloc: Global, file: &str, choice: usize) -> Result<Str
 }
 
 /// Explains why a run by choices is open.
-pub fn open_explained(alloc: Global, file: &str) -> Result<String, AllocError> {
-    headed(alloc, heading_of(file, "open"), OPEN)
+pub fn open_explained(
+    alloc: Global,
+    file: &str,
+    choosing: Option<Choosing<'_>>,
+) -> Result<String, AllocError> {
+    let text = match choosing {
+        Some(Choosing::Random(_)) => DRAWN,
+        _ => OPEN,
+    };
+    headed(alloc, heading_of(file, "open"), text)
 }

@@ -32,7 +32,7 @@ help: check the file, and its name. `-` is standard input.
 
 const UNWRITTEN: &str =
     "The folder doesn't exist, the name is a folder, the file can't be written, or the disk is full.
-Or the command has read this file under another name.
+Or the command has read this file under another name. Or `fmt --write` would make a program of over 1,048,576 bytes of it.
 help: name a file in an existing folder that you can write to.
 ";
 

@@ -1,15 +1,15 @@
 -- What is known about files, and what reading them returns.
 use Rattle.std.specs.Prelude.{ℕ, ℤ, pos, ◌≡◌, ◌≢◌, ◌<◌, ◌≤◌, List, [], ◌∷◌, ◌++◌, codes, length, map}
-use Rattle.std.specs.Prelude.{Bool, nat_eq, replicate, take}
+use Rattle.std.specs.Prelude.{Bool, true, nat_eq, replicate, take, if◌then◌else◌}
 use Rattle.std.specs.Prelude.{Option, None, Some, Result, Ok, Err, IfSome}
 use Rattle.std.specs.Fmt.{decimal}
 use Rattle.std.specs.List.{after_first, before_first, flat_map}
-use Rattle.std.specs.Str.{IsUtf8}
+use Rattle.std.specs.Str.{IsUtf8, bytes_eq}
 use Rattle.std.specs.String.{string_bytes}
 use Rattle.syntax.specs.declared.error.SyntaxError.TheVariants.{TooLong}
 use Rattle.types.specs.Code.{Array}
 use Rattle.types.specs.InputErrors.{told}
-use Rattle.types.specs.Inputs.{text_says}
+use Rattle.types.specs.Inputs.{Mistake, Stranger, is_named, text_says, wrong_input}
 use Rattle.types.specs.declared.input_error.InputError.{InputError}
 use Rattle.command_line.specs.Lists.{lists_in}
 use Rattle.command_line.specs.Requests.{Source, FromFile, FromLists, FromBytes, source_file}
@@ -134,13 +134,11 @@ lists_text words = object_text (members [] (lists_in words))
 abbrev pub bytes_text : (name bytes : List ℕ) → List ℕ
 bytes_text name bytes = object_text (member_of name (joined bytes))
 
--- this is the JSON text of a source: that of its file, that of its lists, or that of one array with the bytes
--- of its file
+-- this is the JSON text of a source: that of its file, or that of its lists; bytes have none
 abbrev pub HasJson : Held → Source → (text : List ℕ) → Type 0
 HasJson held (FromFile name) text = HasText held name text
 HasJson held (FromLists words) text = text ≡ lists_text words
-HasJson held (FromBytes name file) text =
-    (bytes : List ℕ) × IsGiven (held file) (Ok bytes) × (text ≡ bytes_text name bytes)
+HasJson held (FromBytes name file) text = ⊥
 
 -- a JSON text has these lists for the arrays
 abbrev pub SaysText : (text : List ℕ) → List Array → (lists : List (List ℤ)) → Type 0
@@ -153,23 +151,69 @@ HasMistakeIn text arrays NoMemory = Unit {0}
 HasMistakeIn text arrays _ = ⊥
 
 -- a source has a JSON text with these lists for the arrays
-pub record Says (held : Held) (source : Source) (arrays : List Array) (lists : List (List ℤ))
+pub record SaysJson (held : Held) (source : Source) (arrays : List Array) (lists : List (List ℤ))
     : Type 0 where
   pub text : List ℕ
   pub has_text : HasJson held source text
   pub says : SaysText text arrays lists
+
+-- the lists in which the array with this name has these bytes, and the other arrays have zeros
+abbrev pub with_bytes : (name bytes : List ℕ) → List Array → List (List ℤ)
+with_bytes name bytes arrays =
+    map (λ a. if bytes_eq a.name name then map pos bytes else replicate a.length (pos 0)) arrays
+
+-- the mistake in these lists: no array has the name, or one has another length
+abbrev pub wrong_bytes : (name bytes : List ℕ) → List Array → Option Mistake
+wrong_bytes name bytes arrays =
+    if is_named arrays name then wrong_input arrays (with_bytes name bytes arrays) else Some (Stranger name)
+
+-- the failure has this mistake, or memory ran out
+abbrev pub HasMistakeOf : Option Mistake → Failure → Type 0
+HasMistakeOf mistake (Input e) = IfSome (told e) (λ m. mistake ≡ Some m)
+HasMistakeOf mistake NoMemory = Unit {0}
+HasMistakeOf mistake _ = ⊥
+
+-- an array has the name, and these lists have the bytes for it
+abbrev pub HoldBytes : (name bytes : List ℕ) → List Array → (lists : List (List ℤ)) → Type 0
+HoldBytes name bytes arrays lists = (is_named arrays name ≡ true) × (lists ≡ with_bytes name bytes arrays)
+
+-- the lists have the bytes of a file for the array with this name
+pub record SaysBytes (held : Held) (name file : List ℕ) (arrays : List Array) (lists : List (List ℤ))
+    : Type 0 where
+  pub bytes : List ℕ
+  pub given : IsGiven (held file) (Ok bytes)
+  pub says : HoldBytes name bytes arrays lists
+
+-- a source has these lists for the arrays
+abbrev pub Says : Held → Source → List Array → List (List ℤ) → Type 0
+Says held (FromFile name) arrays lists = SaysJson held (FromFile name) arrays lists
+Says held (FromLists words) arrays lists = SaysJson held (FromLists words) arrays lists
+Says held (FromBytes name file) arrays lists = SaysBytes held name file arrays lists
 
 -- the initial contents of the arrays: zeros, or the lists of the source
 abbrev pub BeginsWith : (input : Option Source) → Held → List Array → List (List ℤ) → Type 0
 BeginsWith None held arrays lists = lists ≡ zeros arrays
 BeginsWith (Some source) held arrays lists = Says held source arrays lists
 
--- a source has a text with this error, or memory ran out
-pub record HasMistake (held : Held) (source : Source) (arrays : List Array) (e : InputError)
+-- a source has a JSON text with this error, or memory ran out
+pub record HasMistakeInJson (held : Held) (source : Source) (arrays : List Array) (e : InputError)
     : Type 0 where
   pub text : List ℕ
   pub has_text : HasJson held source text
   pub mistake : IfSome (told e) (λ m. text_says arrays text ≡ Err m)
+
+-- the bytes of a file have this error as an input, or memory ran out
+pub record HasMistakeInBytes (held : Held) (name file : List ℕ) (arrays : List Array) (e : InputError)
+    : Type 0 where
+  pub bytes : List ℕ
+  pub given : IsGiven (held file) (Ok bytes)
+  pub mistake : IfSome (told e) (λ m. wrong_bytes name bytes arrays ≡ Some m)
+
+-- a source has this error, or memory ran out
+abbrev pub HasMistake : Held → Source → List Array → InputError → Type 0
+HasMistake held (FromFile name) arrays e = HasMistakeInJson held (FromFile name) arrays e
+HasMistake held (FromLists words) arrays e = HasMistakeInJson held (FromLists words) arrays e
+HasMistake held (FromBytes name file) arrays e = HasMistakeInBytes held name file arrays e
 
 -- there is a source of an input, and this is true of it
 pub record HasSource (input : Option Source) (P : Source → Type 0) : Type 0 where

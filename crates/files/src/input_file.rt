@@ -14,6 +14,7 @@ ghost use Rattle.files.specs.Held.{behind_list, lists_text as text_of_lists, mem
 ghost use Rattle.files.specs.Held.{shown};
 ghost use Rattle.files.specs.Held.{zeros as zeros_of};
 
+use crate::bytes_input::with_bytes;
 use crate::file_source::{FileSource, read_file};
 use command_line::lists::{awaits, list_of};
 use command_line::request::InputSource;
@@ -107,10 +108,7 @@ fn bytes_in<F: FileSource>(
     ensures keeps { F.held files.new ≡ F.held files.old }
 {
     let bytes = read_file(alloc, files, file)?;
-    match bytes_text(alloc, name, &bytes) {
-        Ok(text) => read(alloc, typed, text.as_str()),
-        Err(AllocError) => Err(Failure::NoMemory),
-    }
+    with_bytes(alloc, typed, name, &bytes)
 }
 
 // ---- JSON texts

@@ -2,6 +2,7 @@
 
 #![tactic(auto)]
 
+mod bytes_input;
 pub mod choices;
 pub mod file_source;
 pub mod input_file;

@@ -128,8 +128,7 @@ pub fn named_twice(alloc: Global) -> Result<Reply, Error>
     ensures conflict { IfOk result IsConflict }
     ensures memory { IfErr result (λ error. kind_of error ≡ OutOfMemory) }
 {
-    let mistake =
-        "the same file is named twice: afx never reads and writes one file, and reads standard input once";
+    let mistake = "the same file is named twice: name each file once, and standard input once";
     Ok(Reply::Said(commands(alloc)?.error(ErrorKind::ArgumentConflict, mistake)?))
 }
 

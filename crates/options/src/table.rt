@@ -68,7 +68,7 @@ const FILE: Entry = Entry {
 
 const FILES: Entry = Entry {
     name: "FILE",
-    help: "Program file, or - for standard input; several files come after the options",
+    help: "Program file, or - for standard input; several files come last, and without --format, --list and --all",
     takes: Takes::File,
 };
 
@@ -296,7 +296,7 @@ const EXPLAIN: Entry = Entry {
 
 const COLOR: Entry = Entry {
     name: "color",
-    help: "Colour the output of --explain [default: auto, on a terminal unless NO_COLOR is set]",
+    help: "Color the output of --explain [default: auto, on a terminal unless NO_COLOR is set]",
     takes: Takes::OneOf("WHEN", &["auto", "always", "never"]),
 };
 

@@ -23,7 +23,8 @@ const PAGES: &[Page] = &[
         others: ["cannot write output", "cannot write"],
         about: "file or output can't be written",
         rule: "The trace, picture, page or formatted program can't be written to this file, or the disk is full.
-Or the command has read this file under another name, such as a link. Nothing is printed then.
+Or the command has read this file under another name, such as a link. Or `fmt --write` would make a program of over 1,048,576
+bytes of it. Nothing is printed then.
 `cannot write output`: writing to standard output failed. It may have received the beginning of the answer.",
         program: ["main {", "}"],
         tells: "run program.afx --trace -" => "cannot write -",

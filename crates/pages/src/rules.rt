@@ -88,7 +88,7 @@ A section overlaps its own parts, and sides of two different splits of one secti
     page! {
         name: "Y9",
         about: "limit exceeded",
-        rule: "A program has at most 256 procedures besides `main`, 16 parameters for each procedure, 32 arrays, 4,194,304 elements in
+        rule: "A program has at most 256 procedures in addition to `main`, 16 parameters for each procedure, 32 arrays, 4,194,304 elements in
 all arrays together, and 65,535 statements.",
         program: ["main {", "  array a: int[4194305];", "}"],
         tells: "check program.afx" => "Y9",

@@ -1,3 +1,4 @@
+use Rattle.std.proofs.Common.{Err, refl}
 use Rattle.std.specs.String.{string_bytes}
 use Rattle.std.proofs.lemmas.Result.{IfOk-at_ok}
 use Rattle.std.proofs.lemmas.Str.{IsUtf8-string_bytes}
@@ -30,3 +31,14 @@ returns-clause-leaves g c =
     (IfOk-at_ok _ is out.kept) (IfOk-at_ok _ is out.tokens))
     c.in_ok-write_file.ensures.written c.in_ok-write_file.ensures.others)
     c.answer-2.ensures.failure
+
+pub returns-then-len-gt-MOST_BYTES-clause-done : goal.returns-then-len-gt-MOST_BYTES-clause-done
+returns-then-len-gt-MOST_BYTES-clause-done g c =
+    let text = c.args.text.now in
+    let laid = string_bytes c.in_ok-laid.laid in
+    let f = c.cannot_write.result in
+    rewrite_unwritten c.args.file.now text _ (Err f) f refl
+    (needs_layout text laid (tree_of c.in_ok-_program._program) c.in_ok-_program.ensures.spelled c.utf8.text
+    (IsUtf8-string_bytes c.in_ok-laid.laid)
+    (differ c.eq.result c.as_str.result.now laid text c.as_str.ensures.value c.eq.ensures c.if-eq.false)
+    (IfOk-at_ok _ c.in_ok-laid.ensures.value c.laid_out.ensures.laid)) c.cannot_write.ensures
