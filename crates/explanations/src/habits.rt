@@ -69,8 +69,9 @@ impl<'t> TokensAround<'t> {
             return Some(FOR);
         }
         match self.first {
-            Some(Token::Name(name)) if is_before_block(name) => Some(BLOCK),
+            Some(Token::Name(name)) => self.mend_of_first_name(name),
             Some(Token::Mark(mark)) => self.mend_of_mark(*mark),
+            Some(Token::Word(Word::As)) => self.mend_of_as(),
             Some(Token::Word(Word::Array)) => {
                 Some("declare arrays only at the beginning of main")
             }
@@ -89,6 +90,32 @@ impl<'t> TokensAround<'t> {
         match self.last {
             Some(Token::Name(name)) if is_first => mend_of_statement_name(name),
             _ => None,
+        }
+    }
+
+    /// Handles an unexpected name.
+    fn mend_of_first_name(self, name: &str) -> Option<&'static str> {
+        match name {
+            "then" | "do" => Some(BLOCK),
+            "mod" if !self.is_assigned() => Some("use `%` for the remainder, as in `7 % 3`"),
+            "Main" => Some("write `main` in lower case"),
+            _ => self.mend_behind(),
+        }
+    }
+
+    /// Returns whether `=` follows the first token.
+    fn is_assigned(self) -> bool {
+        matches!(self.second, Some(Token::Mark(Mark::Becomes)))
+    }
+
+    /// Handles an unexpected `as`.
+    fn mend_of_as(self) -> Option<&'static str> {
+        if self.declares(Word::Parts) {
+            Some("write `by` before `as`, as in `parts a by 1 as p, i { .. }`")
+        } else if self.declares(Word::Split) {
+            Some("write `at` before `as`, as in `split a at 2 as l, r { .. }`")
+        } else {
+            self.mend_behind()
         }
     }
 
@@ -121,22 +148,15 @@ impl<'t> TokensAround<'t> {
             (Some(Token::Word(Word::Main)), Mark::LeftParen) => {
                 Some("main has no parameters: write `main { .. }`")
             }
-            (Some(Token::Word(Word::Int)), Mark::LeftBracket)
-            | (Some(Token::Word(Word::Byte)), Mark::LeftBracket) => {
-                Some("remove the brackets: the length of a section s is `len(s)`")
-            }
-            (Some(Token::Mark(Mark::RightBracket)), Mark::LeftBracket) => {
-                Some("use one index, as in `a[i * n + j]`: arrays have one dimension")
-            }
-            (Some(Token::Name(_)), Mark::LeftBracket) if self.declares(Word::Array) => {
-                Some("write the type before the length, as in `array a: int[8];`")
-            }
-            (_, Mark::Colon) if matches!(self.second, Some(Token::Mark(Mark::Becomes))) => {
+            (_, Mark::LeftBracket) => self.mend_of_bracket(),
+            (_, Mark::Colon) if self.is_assigned() => {
                 Some("assign with `=`, as in `x = 1;`, and declare with `var`, as in `var x = 1;`")
             }
             (Some(Token::Name(_)), Mark::Colon) if self.declares(Word::Var) => {
                 Some("remove the type: variables are integers, as in `var x = 1;`")
             }
+            (Some(Token::Name(_)), Mark::Semicolon) | (Some(Token::Name(_)), Mark::Comma)
+                if self.declares(Word::Var) => Some("give it a value, as in `var x = 0;`"),
             (_, Mark::Semicolon) if self.is_ended() => {
                 Some("remove it; the empty statement is `skip;`")
             }
@@ -146,11 +166,34 @@ impl<'t> TokensAround<'t> {
         }
     }
 
+    /// Handles an unexpected `[`.
+    fn mend_of_bracket(self) -> Option<&'static str> {
+        match self.last {
+            Some(Token::Word(Word::Int)) | Some(Token::Word(Word::Byte)) => Some(
+                "remove the brackets: a section is `mut s: int` or `read s: int`, and `len(s)` is its length",
+            ),
+            Some(Token::Mark(Mark::RightBracket)) => {
+                Some("use one index, as in `a[i * n + j]`: arrays have one dimension")
+            }
+            Some(Token::Name(_)) if self.declares(Word::Array) => {
+                Some("write the type before the length, as in `array a: int[8];`")
+            }
+            Some(Token::Name(_)) if matches!(self.last_but_two, Some(Token::Word(Word::Len))) => {
+                Some("write only the name of a section, as in `len(a)`")
+            }
+            _ => self.mend_of_step(Mark::LeftBracket),
+        }
+    }
+
     /// Handles a mark after another one, as in `1 << 2` or `/* c */`.
     fn mend_of_marks(self, last: Mark, mark: Mark) -> Option<&'static str> {
         match (last, mark) {
             (Mark::Slash, Mark::Star) => Some(COMMENT),
             (Mark::Less, Mark::Less) | (Mark::Greater, Mark::Greater) => Some(SHIFT),
+            (Mark::Less, Mark::Greater) | (Mark::Differs, Mark::Becomes) => Some(
+                "use `!=` for not equal",
+            ),
+            (Mark::Equal, Mark::Becomes) => Some("use `==` for equality"),
             (Mark::Star, Mark::Star) => Some("there are no powers: multiply in a loop"),
             _ => self.mend_of_step(mark),
         }
@@ -166,6 +209,8 @@ impl<'t> TokensAround<'t> {
                 Some("there is no `x++`: write `x = x + 1;`")
             }
             (Mark::Slash, Mark::Star) | (Mark::Star, Mark::Slash) => Some(COMMENT),
+            (Mark::Becomes, Mark::Greater) => Some("use `>=` for at least"),
+            (Mark::Becomes, Mark::Less) => Some("use `<=` for at most"),
             (_, Mark::Becomes) if self.first.is_some_and(is_operator) => {
                 Some("there are no compound assignments such as `+=`: write `x = x + ..;`")
             }
@@ -245,11 +290,6 @@ impl<'t> TokensAround<'t> {
     }
 }
 
-/// Returns whether a name is a word that precedes a block in other languages.
-fn is_before_block(name: &str) -> bool {
-    matches!(name, "then" | "do")
-}
-
 /// Returns whether a token is a name that starts a loop in other languages.
 fn is_for(token: &Token) -> bool {
     match token {
@@ -297,6 +337,11 @@ fn mend_of_statement_name(name: &str) -> Option<&'static str> {
             "there are no locks or atomics: give each task its own result, and read them after the finish; see `afx explain answers`",
         ),
         "switch" | "match" => Some("write an `if` for each case"),
+        "try" | "catch" | "except" => Some(
+            "handle faults with `rescue`, as in `finish { .. } rescue n { .. }`",
+        ),
+        "throw" | "raise" => Some("stop the task with a number, as in `fault 1;`"),
+        "call" => Some("write only the name before the parenthesis, as in `f(a);`"),
         "print_int" | "println" | "printf" | "puts" | "echo" => {
             Some("print numbers with `print`, as in `print x, a[0];`")
         }
@@ -355,6 +400,31 @@ pub fn mend_of_second(before: &[Spanned], behind: &[Spanned]) -> Option<&'static
             }
         }
         _ => None,
+    }
+}
+
+/// Returns what to write if the declaration of an array could end, and continues with its elements
+/// or a second array.
+pub fn mend_of_array(before: &[Spanned], behind: &[Spanned]) -> Option<&'static str> {
+    let Some(Token::Word(Word::Array)) = first_of_statement(before) else {
+        return None;
+    };
+    if begins_with(behind, Mark::Becomes) {
+        Some(
+            "assign elements, as in `a[0] = 1;`, or use `--set` or `--input`: arrays start with zeros",
+        )
+    } else if begins_with(behind, Mark::Comma) {
+        Some("use one declaration per array, as in `array a: int[5]; array b: int[5];`")
+    } else {
+        None
+    }
+}
+
+/// Returns whether the statement that contains the last token is a `print`.
+pub fn is_print(tokens: &[Spanned]) -> bool {
+    match first_of_statement(tokens) {
+        Some(Token::Word(Word::Print)) => true,
+        _ => false,
     }
 }
 

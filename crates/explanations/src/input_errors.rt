@@ -5,7 +5,7 @@ use excerpts::heading::Heading;
 use excerpts::nouns::noun;
 use excerpts::similar::similar;
 use excerpts::source::line_of;
-use serde_json::Value;
+use serde_json::{Error, Value};
 use std::alloc::{AllocError, Global};
 use syntax::TextPlace;
 use syntax_tree::tree::ElementType;
@@ -47,9 +47,7 @@ pub fn explained_input(
             if wrong.is_memory() {
                 return Err(AllocError);
             }
-            let place = place_in(text, wrong.line(), wrong.column());
-            heading.push_excerpt(&mut told, text, place)?;
-            push_no_json(&mut told, text, place, wrong.is_eof())?;
+            push_unread(alloc, &mut told, text, &wrong, heading)?;
             return Ok(told);
         }
     };
@@ -68,6 +66,27 @@ const NO_OBJECT: &str =
     "The input must be one object with a list of numbers for each array that doesn't start with zeros.
 help: write {\"a\": [1, 2]}, where a is the name of an array.
 ";
+
+const OUT_OF_RANGE: &str = "The number before this is too large.
+help: use a number from -9223372036854775808 to 9223372036854775807.
+";
+
+/// Explains why a text can't be read as JSON.
+fn push_unread(
+    alloc: Global,
+    told: &mut String,
+    text: &str,
+    wrong: &Error,
+    heading: Heading<'_>,
+) -> Result<(), AllocError> {
+    let place = place_in(text, wrong.line(), wrong.column());
+    heading.push_excerpt(told, text, place)?;
+    let reason = format!(in alloc; "{wrong}")?;
+    if reason.contains("number out of range") {
+        return told.push_str(OUT_OF_RANGE);
+    }
+    push_no_json(told, text, place, wrong.is_eof())
+}
 
 /// Returns the place of a byte of a line, given by its number from 1.
 fn place_in(text: &str, line: usize, byte: usize) -> TextPlace {
@@ -228,10 +247,27 @@ fn push_length(
         Form::Json =>
             "help: write one number for each element; an omitted array starts with zeros.\n",
         Form::Numbers => "help: write one number for each element.\n",
-        Form::Bytes if ends_line(list) =>
-            "help: leave out the line end at the end of the file, as `printf` does.\n",
-        Form::Bytes => "help: name a file with one byte for each element.\n",
+        Form::Bytes => return push_bytes_mend(told, array, list),
     })
+}
+
+/// Adds how to fix a file that doesn't have one byte for each element of an array.
+fn push_bytes_mend(told: &mut String, array: &Array, list: &[Value]) -> Result<(), AllocError> {
+    let (wanted, given) = (array.length, list.len());
+    if given == 0 {
+        return told.push_str("help: name a file with one byte for each element.\n");
+    }
+    if given == wanted.saturating_add(1) && ends_line(list) {
+        return told.push_str(
+            "help: leave out the line end at the end of the file, as `printf` does.\n",
+        );
+    }
+    let (name, element) = (array.name.as_str(), element_text(array.element));
+    let bytes = noun(wanted, "byte", "bytes");
+    write!(
+        told,
+        "help: declare `{name}: {element}[{given}]`, or name a file of {wanted} {bytes}.\n"
+    )
 }
 
 /// Returns what gives so many elements.
@@ -286,10 +322,12 @@ fn push_element(
     let Some(list) = value.get(name).and_then(Value::as_array) else {
         return Ok(());
     };
+    let mut is_fraction = false;
     for (number, element) in list.iter().enumerate() {
         if !fits(array.element, element) {
             write!(told, "Element {number} of `{name}` (counting from 0) is ")?;
             push_value(alloc, told, element)?;
+            is_fraction = element.is_f64();
             break;
         }
     }
@@ -298,8 +336,15 @@ fn push_element(
         ElementType::Byte => "A byte is an integer from 0 to 255",
     })?;
     told.push_str(", written without a decimal point or exponent.\n")?;
-    told.push_str("help: use a number in this range.\n")
+    told.push_str(if is_fraction {
+        DIGITS
+    } else {
+        "help: use a number in this range.\n"
+    })
 }
+
+const DIGITS: &str =
+    "help: write an integer in this range with digits only, such as 0 for -0 and 1000 for 1e3.\n";
 
 /// The number of characters that are shown of an element.
 const SHOWN: usize = 60;

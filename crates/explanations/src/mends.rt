@@ -185,6 +185,12 @@ enum Advice<'c> {
         whole: &'c str,
         piece: &'c str,
     },
+    /// The block of a `parts` uses its piece instead of another section that it reads, or reads from
+    /// a second array.
+    PieceOrOld {
+        whole: &'c str,
+        piece: &'c str,
+    },
     /// Sections are divided in the same way, with a task for each part of all of them.
     Alike,
     /// Each task gets an element of its own for its result.
@@ -223,7 +229,7 @@ fn advice_of<'c>(
         }
     }
     if starts_in_turns(witness) {
-        return advice_for_turns(statements, witness, name, elements);
+        return advice_for_turns(statements, race, witness, name, elements);
     }
     if matches!(witness.meeting, RunsTogether::Turns) {
         let piece = free_piece(statements, procedure_name(code, race.procedure));
@@ -250,22 +256,26 @@ fn piece_of<'c>(procedure: &'c Procedure, race: Race) -> Option<Advice<'c>> {
     if first == second {
         return None;
     }
-    let (piece, whole) = if is_piece(procedure, first) {
-        (first, second)
+    let (piece, whole, is_written) = if is_piece(procedure, first) {
+        (first, second, race.second.write)
     } else if is_piece(procedure, second) {
-        (second, first)
+        (second, first, race.first.write)
     } else {
         return None;
     };
-    Some(Advice::Piece {
-        whole: section_name(procedure, whole),
-        piece: section_name(procedure, piece),
+    let whole = section_name(procedure, whole);
+    let piece = section_name(procedure, piece);
+    Some(if is_written {
+        Advice::Piece { whole, piece }
+    } else {
+        Advice::PieceOrOld { whole, piece }
     })
 }
 
 /// Returns how to fix a race between turns of a `parts` that access a section, which isn't its piece.
 fn advice_for_turns<'c>(
     statements: &'c PlacedStatements<'_>,
+    race: Race,
     witness: &Witness,
     name: &'c str,
     elements: Elements,
@@ -274,7 +284,10 @@ fn advice_for_turns<'c>(
         return Advice::Results;
     }
     match statements.piece_of(first_label(&witness.pending), name) {
-        Some(piece) => Advice::Piece { whole: name, piece },
+        Some(piece) if race.first.write && race.second.write => {
+            Advice::Piece { whole: name, piece }
+        }
+        Some(piece) => Advice::PieceOrOld { whole: name, piece },
         None => Advice::Alike,
     }
 }
@@ -370,16 +383,31 @@ fn push_advice(told: &mut String, advice: Advice<'_>) -> Result<(), AllocError> 
         Advice::Halves { name, sides } => push_halves(told, name, sides),
         Advice::Between { name, index, sides } => push_between(told, name, index, sides),
         Advice::OtherSide { whole, other, side } => { push_other_side(told, whole, other, side) }
-        Advice::Piece { whole, piece } => write!(
-            told,
-            "help: use {piece} instead of {whole}: each turn has its own piece.\n"
-        ),
+        Advice::Piece { whole, piece } => push_piece(told, whole, piece),
+        Advice::PieceOrOld { whole, piece } => push_piece_or_old(told, whole, piece),
         Advice::OneSplit(name) => write!(
             told,
             "help: split {name} only once, and then one of its sides; see `afx explain middle_part`.\n"
         ),
     }
 }
+
+/// Adds to use the piece of a `parts` instead of another section.
+fn push_piece(told: &mut String, whole: &str, piece: &str) -> Result<(), AllocError> {
+    write!(
+        told,
+        "help: use {piece} instead of {whole}: each turn has its own piece.\n"
+    )
+}
+
+/// Adds to use the piece of a `parts` instead of another section, or to read from a second array.
+fn push_piece_or_old(told: &mut String, whole: &str, piece: &str) -> Result<(), AllocError> {
+    push_piece(told, whole, piece)?;
+    told.push_str(OLD)
+}
+
+const OLD: &str =
+    "help: or read elements of other pieces from a second array; see `afx explain turned_names`.\n";
 
 /// Adds a `parts` of a section. Its turn replaces the variable of the loop.
 fn push_pieces(told: &mut String, name: &str, piece: &str) -> Result<(), AllocError> {

@@ -4,11 +4,12 @@ use crate::brackets::{Unclosed, open_bracket, unclosed_block};
 use crate::characters::mend_of_character;
 use crate::expected::{Front, WORDS, mark_text, word_text};
 use crate::habits::{
-    BLOCK, TokensAround, begins_with_relation, mend_of_head, mend_of_second, mend_of_type_name,
+    BLOCK, TokensAround, begins_with_relation, is_print, mend_of_array, mend_of_head,
+    mend_of_second, mend_of_type_name,
 };
 use excerpts::heading::Heading;
 use excerpts::named::begins_with;
-use excerpts::source::place_of;
+use excerpts::source::{line_of, place_of};
 use std::alloc::{AllocError, Global};
 use syntax::cursor::Stuck;
 use syntax::error::SyntaxError;
@@ -30,7 +31,7 @@ pub fn explained_syntax(
     match error {
         SyntaxError::NotACharacter { place } => push_no_token(&mut told, text, *place)?,
         SyntaxError::UnexpectedToken { .. } => push_unexpected(alloc, &mut told, text)?,
-        SyntaxError::NumberTooLarge { .. } => told.push_str(TOO_LARGE)?,
+        SyntaxError::NumberTooLarge { place } => told.push_str(mend_of_large(text, *place))?,
         SyntaxError::TooDeep { .. } => told.push_str(TOO_DEEP)?,
         SyntaxError::TooLong => {
             heading.push(&mut told, None)?;
@@ -49,6 +50,10 @@ const TOO_LARGE: &str = "The largest number is 9223372036854775807.
 help: use a smaller number.
 ";
 
+const SMALLEST: &str = "The largest number is 9223372036854775807.
+help: write the smallest number as `-9223372036854775807 - 1`.
+";
+
 const TOO_DEEP: &str = "Brackets are nested more than 100 deep here.
 help: move part of the expression into a variable, or part of the block into a procedure.
 ";
@@ -64,6 +69,17 @@ const DIGITS: &str =
     "write numbers with the digits 0 to 9 only, such as 16 for 0x10 and 1000 for 1_000";
 
 const CHAIN: &str = "compare two numbers at a time, as in `a < b and b < c`";
+
+/// Explains a number that is too large.
+fn mend_of_large(text: &str, place: TextPlace) -> &'static str {
+    let Some((_, behind)) = line_of(text, place).split_once("-9223372036854775808") else {
+        return TOO_LARGE;
+    };
+    match behind.chars().next() {
+        Some(digit) if digit.is_ascii_digit() => TOO_LARGE,
+        _ => SMALLEST,
+    }
+}
 
 /// Explains an unexpected character.
 fn push_no_token(told: &mut String, text: &str, place: TextPlace) -> Result<(), AllocError> {
@@ -94,7 +110,7 @@ fn push_unexpected(alloc: Global, told: &mut String, text: &str) -> Result<(), A
         return told.push_str("help: look at the code before this.\n");
     }
     if is_word(&behind) && front.wants_name()? {
-        return push_reserved(told);
+        return push_reserved(told, is_main_of(front.tokens(), &behind));
     }
     let many = front.push_expected(told)?;
     let site = Site {
@@ -149,8 +165,20 @@ fn is_word(tokens: &[Spanned]) -> bool {
     }
 }
 
-/// Adds that a name is expected, and lists the reserved words.
-fn push_reserved(told: &mut String) -> Result<(), AllocError> {
+/// Returns whether `main` follows `proc`.
+fn is_main_of(before: &[Spanned], behind: &[Spanned]) -> bool {
+    match (before.last(), behind.first()) {
+        (Some(last), Some(first)) => {
+            matches!(&last.token, Token::Word(Word::Proc))
+                && matches!(&first.token, Token::Word(Word::Main))
+        }
+        _ => false,
+    }
+}
+
+/// Adds that a name is expected, and lists the reserved words. The one here may be `main`, after
+/// `proc`.
+fn push_reserved(told: &mut String, is_main: bool) -> Result<(), AllocError> {
     told.push_str("Expected a name. Reserved words:\n ")?;
     let mut width: usize = 1;
     for word in WORDS {
@@ -161,7 +189,11 @@ fn push_reserved(told: &mut String) -> Result<(), AllocError> {
         write!(told, " {word}")?;
         width = width.saturating_add(word.len()).saturating_add(1);
     }
-    told.push_str("\nhelp: use another name.\n")
+    told.push_str(if is_main {
+        "\nhelp: write `main { .. }` without `proc`.\n"
+    } else {
+        "\nhelp: use another name.\n"
+    })
 }
 
 /// What the fix of an unexpected token depends on, besides the tokens before it.
@@ -233,10 +265,14 @@ impl Site<'_> {
     fn mend_of_end(&self, front: &mut Front) -> Result<Option<&'static str>, AllocError> {
         let may_end = front.takes_mark(Mark::Semicolon)?;
         let may_go_on = front.takes_mark(Mark::Plus)?;
-        if may_end && may_go_on {
-            if let Some(mend) = mend_of_second(front.tokens(), self.behind) {
-                return Ok(Some(mend));
-            }
+        let again = match (may_end, may_go_on) {
+            (true, true) => mend_of_second(front.tokens(), self.behind),
+            (true, false) => mend_of_array(front.tokens(), self.behind),
+            (false, true) => self.mend_of_print(front)?,
+            (false, false) => None,
+        };
+        if again.is_some() {
+            return Ok(again);
         }
         if begins_with(self.behind, Mark::LeftParen) && front.ends_with_value()? {
             return Ok(Some(NO_VALUE));
@@ -249,6 +285,16 @@ impl Site<'_> {
         }
         Ok(if may_end {
             Some("add `;` before this")
+        } else {
+            None
+        })
+    }
+
+    /// Handles a comma between parentheses after `print`, as in `print(1, 2);`.
+    fn mend_of_print(&self, front: &mut Front) -> Result<Option<&'static str>, AllocError> {
+        let is_list = begins_with(self.behind, Mark::Comma) && is_print(front.tokens());
+        Ok(if is_list && front.takes_mark(Mark::RightParen)? {
+            Some("remove the parentheses, as in `print 1, 2;`")
         } else {
             None
         })
