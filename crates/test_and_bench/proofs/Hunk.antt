@@ -85,11 +85,11 @@ module _ {X : Type 0} (line : X → List ℕ) where
 
   -- the whole description
   pub described_so : (told wanted text new : List ℕ) (ts ws : List X) (n : ℕ) → n ≡ differing_line 1 told wanted
-      → text ≡ codes "output differs at line " ++ (decimal n ++ codes "\n") → map line ts ≡ lines_of told
+      → text ≡ codes "differs at line " ++ (decimal n ++ codes "\n") → map line ts ≡ lines_of told
       → map line ws ≡ lines_of wanted → new ≡ text ++ hunk line ts ws → new ≡ description told wanted
   described_so told wanted text new ts ws n at head are wanted_are is =
       is
       ∙ ap (λ (t : List ℕ). t ++ hunk line ts ws)
-      (head ∙ ap (λ (m : ℕ). codes "output differs at line " ++ (decimal m ++ codes "\n")) at)
-      ∙ ap (λ (h : List ℕ). (codes "output differs at line " ++ (decimal (differing_line 1 told wanted) ++ codes "\n")) ++ h)
+      (head ∙ ap (λ (m : ℕ). codes "differs at line " ++ (decimal m ++ codes "\n")) at)
+      ∙ ap (λ (h : List ℕ). (codes "differs at line " ++ (decimal (differing_line 1 told wanted) ++ codes "\n")) ++ h)
       (hunk_by ts ws ∙ ap (λ (ls : List (List ℕ)). hunk itself ls (map line ws)) are ∙ ap (hunk itself (lines_of told)) wanted_are)

@@ -14,7 +14,8 @@ use Rattle.commands.specs.declared.question.Begun.{Begun}
 use Rattle.commands.proofs.Answering.{begun_so, other_failure}
 use Rattle.test_and_bench.specs.Differences.{difference}
 use Rattle.test_and_bench.specs.Runs.{TellsNoRun}
-use Rattle.test_and_bench.specs.Trials.{Trial, IsBegun, IsCompared, IsRefused, IsUnrun, Prints, file, settings_of, told_by}
+use Rattle.test_and_bench.specs.Trials.{Trial, IsBegun, IsCompared, IsMessage, IsRefused, IsRefusedAs, IsUnrun, Prints}
+use Rattle.test_and_bench.specs.Trials.{file, settings_of, told_by}
 use Rattle.test_and_bench.specs.Trials.{without_answer, without_text}
 use Rattle.test_and_bench.proofs.RunCauses.{no_run_explained, no_run_other, same_tasks}
 
@@ -35,6 +36,19 @@ no_program_at held name other f same why = subst (λ (n : List ℕ). TellsNoProg
 -- for files with the same contents
 pub no_text_kept : (mid held : Held) (name : List ℕ) (f : Failure) → mid ≡ held → TellsNoText mid name f → TellsNoText held name f
 no_text_kept mid held name f same why = subst (λ (h : Held). TellsNoText h name f) same why
+
+-- refused, and compared with the expected message
+pub refused_as : (held mid : Held) (t : Trial) (f : Failure) (d how : Option (Vec ℕ Global)) → IsRefused held t f
+    → mid ≡ held → d ≡ how → IsMessage mid t f (option_map (λ v. v.items) d)
+    → IsRefusedAs held t (option_map (λ v. v.items) how)
+refused_as held mid t f d how why same is message =
+    let bytes : Option (Vec ℕ Global) → Option (List ℕ) = option_map (λ v. v.items) in
+    record {
+      failure = f;
+      refused = why;
+      message = subst (λ (e : Option (Vec ℕ Global)). IsMessage held t f (bytes e)) is
+          (subst (λ (h : Held). IsMessage h t f (bytes d)) same message);
+    }
 
 -- ---- runs
 

@@ -16,10 +16,10 @@ differing_line line (x ∷ told) [] = line
 differing_line line (x ∷ told) (y ∷ wanted) =
     if nat_eq x y then differing_line (line_behind x line) told wanted else line
 
--- that line, and the lines that differ
+-- that line, and the lines that differ, after what the texts are
 abbrev pub description : (told wanted : List ℕ) → List ℕ
 description told wanted =
-    (codes "output differs at line " ++ (decimal (differing_line 1 told wanted) ++ codes "\n"))
+    (codes "differs at line " ++ (decimal (differing_line 1 told wanted) ++ codes "\n"))
     ++ hunk (λ line. line) (lines_of told) (lines_of wanted)
 
 -- it, if the texts differ

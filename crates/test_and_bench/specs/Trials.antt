@@ -6,7 +6,6 @@ use Rattle.std.specs.Prelude.{MatchOption, MatchBool, String}
 use Rattle.std.specs.Fmt.{decimal}
 use Rattle.std.specs.Global.{Global}
 use Rattle.std.specs.List.{flat_map}
-use Rattle.std.specs.Str.{bytes_eq}
 use Rattle.std.specs.Str.Lines.{lines}
 use Rattle.std.specs.String.{string_bytes}
 use Rattle.types.specs.Code.{Program}
@@ -137,23 +136,28 @@ pub data IsRefused (held : Held) (t : Trial) (f : Failure) : Type 0 where
 abbrev pub line_for : Trial → Failure → List ℕ
 line_for t f = escaped t.program.shown ++ (codes ".afx: " ++ (failure_text f ++ codes "\n"))
 
+-- the lines of a program of which a text, such as the output, differs in this way from the expected one
+abbrev pub lines_of_difference : Trial → (what how : List ℕ) → List ℕ
+lines_of_difference t what how = escaped t.program.shown ++ (codes ".afx: " ++ (what ++ (codes " " ++ how)))
+
 -- ---- one that is to be refused
 
--- its `.err` file has these bytes: whether they are the message of a failure
-pub record IsMessage (held : Held) (t : Trial) (f : Failure) (same : Bool) : Type 0 where
+-- its `.err` file has these bytes: how they differ from the message of a failure, if they do
+pub record IsMessage (held : Held) (t : Trial) (f : Failure) (how : Option (List ℕ)) : Type 0 where
   pub bytes : List ℕ
   pub given : IsGiven (held (file t (codes ".err"))) (Ok bytes)
-  pub same_is : same ≡ bytes_eq (failure_text f ++ codes "\n") bytes
+  pub how_is : how ≡ difference (failure_text f ++ codes "\n") bytes
 
--- it is refused: whether with the message in its `.err` file
-pub record IsRefusedAs (held : Held) (t : Trial) (same : Bool) : Type 0 where
+-- it is refused: how the message differs from its `.err` file, if it does
+pub record IsRefusedAs (held : Held) (t : Trial) (how : Option (List ℕ)) : Type 0 where
   pub failure : Failure
   pub refused : IsRefused held t failure
-  pub message : IsMessage held t failure same
+  pub message : IsMessage held t failure how
 
--- its line, if it fails: it is refused with another message, or not at all, or its `.err` file can't be read
+-- its lines, if it fails: it is refused with another message, or not at all, or its `.err` file can't be read
 pub data IsLineOfRefusal (held : Held) (t : Trial) (line : List ℕ) : Type 0 where
-  with_another : (r : IsRefusedAs held t false) → line ≡ line_for t r.failure → IsLineOfRefusal held t line
+  with_another : (how : List ℕ) → IsRefusedAs held t (Some how) → line ≡ lines_of_difference t (codes "refusal") how
+      → IsLineOfRefusal held t line
   not_refused : (b : Begun) → IsBegun held t b → line ≡ escaped t.program.shown ++ codes ".afx: not refused\n"
       → IsLineOfRefusal held t line
   unread : (f : Failure) → TellsNoText held (file t (codes ".err")) f → line ≡ line_for t f
@@ -189,7 +193,7 @@ pub data IsUncompared (held : Held) (t : Trial) (f : Failure) : Type 0 where
 
 -- its lines, if it fails
 pub data IsLineOfOutput (held : Held) (t : Trial) (line : List ℕ) : Type 0 where
-  otherwise : (how : List ℕ) → IsCompared held t (Some how) → line ≡ escaped t.program.shown ++ (codes ".afx: " ++ how)
+  otherwise : (how : List ℕ) → IsCompared held t (Some how) → line ≡ lines_of_difference t (codes "output") how
       → IsLineOfOutput held t line
   uncompared : (f : Failure) → IsUncompared held t f → line ≡ line_for t f → IsLineOfOutput held t line
 
@@ -214,7 +218,7 @@ pub data IsLineOfRun (held : Held) (t : Trial) (line : List ℕ) : Type 0 where
 
 -- one with an `.err` file is to be refused, and any other is to be run
 abbrev pub Passes : Held → Trial → Type 0
-Passes held t = MatchBool t.program.is_refused (IsRefusedAs held t true) (Fulfils held t)
+Passes held t = MatchBool t.program.is_refused (IsRefusedAs held t None) (Fulfils held t)
 
 abbrev pub IsLine : Held → Trial → (line : List ℕ) → Type 0
 IsLine held t line = MatchBool t.program.is_refused (IsLineOfRefusal held t line) (IsLineOfRun held t line)

@@ -31,12 +31,12 @@ fn described(alloc: Global, told: &[u8], wanted: &[u8]) -> Result<Vec<u8>, Alloc
     Ok(text)
 }
 
-/// Returns the line that names the first line that differs.
+/// Returns the end of the line that names the first line that differs.
 fn headed(alloc: Global, line: usize) -> Result<Vec<u8>, AllocError>
     ensures { IfOk result (λ v. v.items
-        ≡ codes "output differs at line " ++ (decimal line ++ codes "\n")) }
+        ≡ codes "differs at line " ++ (decimal line ++ codes "\n")) }
 {
-    let head = format!(in alloc; "output differs at line {line}\n")?;
+    let head = format!(in alloc; "differs at line {line}\n")?;
     Vec::from_slice(alloc, head.as_bytes())
 }
 

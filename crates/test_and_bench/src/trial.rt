@@ -17,6 +17,7 @@ ghost use Rattle.test_and_bench.specs.Trials.{IsUncompared, LacksOptions, TellsN
 ghost use Rattle.test_and_bench.specs.Trials.{file as file_of, input_file, judged, settings_of};
 ghost use Rattle.test_and_bench.specs.Trials.{trial as trial_of};
 
+use crate::differences::difference;
 use crate::listed::Listed;
 use crate::outcomes::Case;
 use crate::own_options::limits_of;
@@ -177,7 +178,7 @@ impl<'f> Trial<'f> {
         }
     }
 
-    /// Returns the line of a program that is to be refused, or None if it passes.
+    /// Returns the lines of a program that is to be refused, or None if it passes.
     fn line_of_refusal<R: Threads + Sync, F: FileSource>(
         &self,
         rt: &R,
@@ -185,7 +186,7 @@ impl<'f> Trial<'f> {
         files: &mut F,
     ) -> Result<Option<String>, Failure>
         ensures line { let t = trial_of self.now in IfOk result (λ line.
-            MatchOption line (IsRefusedAs (F.held files.old) t true)
+            MatchOption line (IsRefusedAs (F.held files.old) t None)
             (λ l. IsLineOfRefusal (F.held files.old) t (string_bytes l))) }
         ensures why { IfErr result (λ f. f ≡ Failure.NoMemory) }
         ensures keeps { F.held files.new ≡ F.held files.old }
@@ -194,31 +195,32 @@ impl<'f> Trial<'f> {
             Ok(_) => return Ok(Some(self.not_refused(alloc)?)),
             Err(failure) => failure,
         };
-        match self.is_expected(alloc, files, &failure) {
-            Ok(expected) => if expected {
-                Ok(None)
-            } else {
-                Ok(Some(self.failed(alloc, &failure)?))
-            },
+        match self.difference_of_refusal(alloc, files, &failure) {
+            Ok(None) => Ok(None),
+            Ok(Some(how)) => Ok(Some(self.otherwise(alloc, "refusal", how)?)),
             Err(unread) => Ok(Some(self.failed(alloc, &unread)?)),
         }
     }
 
-    /// Returns whether the message of a failure is the contents of its `.err` file.
-    fn is_expected<F: FileSource>(
+    /// Returns how the message of a failure differs from its `.err` file, or None if it doesn't.
+    fn difference_of_refusal<F: FileSource>(
         &self,
         alloc: Global,
         files: &mut F,
         failure: &Failure,
-    ) -> Result<bool, Failure>
-        ensures same { IfOk result (IsMessage (F.held files.old) (trial_of self.now) failure.now) }
+    ) -> Result<Option<Vec<u8>>, Failure>
+        ensures how { IfOk result (λ how. IsMessage (F.held files.old) (trial_of self.now)
+            failure.now (option_map (λ v. v.items) how)) }
         ensures why { IfErr result
             (TellsNoText (F.held files.old) (file_of (trial_of self.now) (codes ".err"))) }
         ensures keeps { F.held files.new ≡ F.held files.old }
     {
         let wanted = self.contents(alloc, files, ".err")?;
         let message = message_of(alloc, failure)?;
-        Ok(message.as_bytes() == wanted.as_slice())
+        match difference(alloc, message.as_bytes(), &wanted) {
+            Ok(how) => Ok(how),
+            Err(AllocError) => Err(Failure::NoMemory),
+        }
     }
 
     /// Returns the lines of a program that is to be run, or None if it passes.
@@ -318,7 +320,7 @@ impl<'f> Trial<'f> {
     {
         match self.difference(rt, alloc, runs, files) {
             Ok(None) => Ok(None),
-            Ok(Some(how)) => Ok(Some(self.otherwise(alloc, how)?)),
+            Ok(Some(how)) => Ok(Some(self.otherwise(alloc, "output", how)?)),
             Err(failure) => Ok(Some(self.failed(alloc, &failure)?)),
         }
     }

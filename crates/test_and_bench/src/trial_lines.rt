@@ -4,7 +4,8 @@ ghost use Rattle.std.specs.Prelude.{◌≡◌, ◌++◌, codes, IfErr, IfOk};
 ghost use Rattle.std.specs.String.{string_bytes};
 ghost use Rattle.failures.specs.Messages.{failure_text};
 ghost use Rattle.printing.specs.Reasons.{escaped};
-ghost use Rattle.test_and_bench.specs.Trials.{line_for, line_of_writing, trial as trial_of};
+ghost use Rattle.test_and_bench.specs.Trials.{line_for, line_of_writing, lines_of_difference};
+ghost use Rattle.test_and_bench.specs.Trials.{trial as trial_of};
 
 use crate::trial::Trial;
 use failures::failure::Failure;
@@ -13,15 +14,15 @@ use printing::reasons::emit_file;
 use std::alloc::{AllocError, Global};
 
 impl Trial<'_> {
-    /// Returns the lines of a program whose output differs in this way.
-    pub fn otherwise(&self, alloc: Global, how: Vec<u8>) -> Result<String, Failure>
+    /// Returns the lines of a program of which a text, such as the output, differs in this way.
+    pub fn otherwise(&self, alloc: Global, what: &str, how: Vec<u8>) -> Result<String, Failure>
         ensures line { IfOk result (λ told. string_bytes told
-            ≡ escaped (trial_of self.now).program.shown ++ (codes ".afx: " ++ how.items)) }
+            ≡ lines_of_difference (trial_of self.now) what.now how.items) }
         ensures why { IfErr result (λ f. f ≡ Failure.NoMemory) }
     {
         let shown = self.shown(alloc)?;
         let how = text_of(how)?;
-        match format!(in alloc; "{shown}.afx: {how}") {
+        match format!(in alloc; "{shown}.afx: {what} {how}") {
             Ok(lines) => Ok(lines),
             Err(AllocError) => Err(Failure::NoMemory),
         }

@@ -1,40 +1,29 @@
-use Rattle.std.proofs.Common.{Bool, subst, codes}
+use Rattle.std.proofs.Common.{subst, codes}
 use Rattle.files.specs.Held.{Held, TellsNoText}
-use Rattle.test_and_bench.specs.Trials.{IsMessage, file, trial, not_refused, unread, with_another}
+use Rattle.test_and_bench.specs.Trials.{file, trial, not_refused, unread, with_another}
+use Rattle.test_and_bench.proofs.Trying.{refused_as}
 use Rattle.test_and_bench.proofs.trial.Trial.line_of_refusal.Goals as goal
 
 pub returns-in-Ok-clause-line : goal.returns-in-Ok-clause-line
 returns-in-Ok-clause-line g c = not_refused c.in-Ok.field-0 c.in-Ok.ensures.begun c.in_ok-not_refused-in-Ok.ensures.line
 
-pub returns-then-expected-clause-line : goal.returns-then-expected-clause-line
-returns-then-expected-clause-line g c =
+pub returns-in-Ok-None-clause-line : goal.returns-in-Ok-None-clause-line
+returns-in-Ok-None-clause-line g c =
     let held = g.F.FileSource.held c.args.files.now in
-    let t = trial c.args.self.now in
-    let f = c.in-Err.failure in
-    record {
-      failure = f;
-      refused = c.in-Err.ensures.why;
-      message = subst (λ (b : Bool). IsMessage held t f b) c.if-expected.true
-          (subst (λ (h : Held). IsMessage h t f c.in-Ok-is_expected.expected) c.in-Err.ensures.keeps
-          c.in-Ok-is_expected.ensures.same);
-    }
+    refused_as held _ (trial c.args.self.now) c.in-Err.failure _ _ c.in-Err.ensures.why c.in-Err.ensures.keeps
+    c.in-Ok-None.field-0-is c.in-Ok-None.ensures.how
 
-pub returns-in-Ok-is_expected-clause-line : goal.returns-in-Ok-is_expected-clause-line
-returns-in-Ok-is_expected-clause-line g c =
+pub returns-in-Ok-Some-clause-line : goal.returns-in-Ok-Some-clause-line
+returns-in-Ok-Some-clause-line g c =
     let held = g.F.FileSource.held c.args.files.now in
-    let t = trial c.args.self.now in
-    let f = c.in-Err.failure in
-    with_another (record {
-      failure = f;
-      refused = c.in-Err.ensures.why;
-      message = subst (λ (b : Bool). IsMessage held t f b) c.if-expected.false
-          (subst (λ (h : Held). IsMessage h t f c.in-Ok-is_expected.expected) c.in-Err.ensures.keeps
-          c.in-Ok-is_expected.ensures.same);
-    }) c.in_ok-failed-in-Ok-is_expected.ensures.line
+    with_another c.in-Ok-Some.how.items
+    (refused_as held _ (trial c.args.self.now) c.in-Err.failure _ _ c.in-Err.ensures.why c.in-Err.ensures.keeps
+    c.in-Ok-Some.field-0-is c.in-Ok-Some.ensures.how)
+    c.in_ok-otherwise-in-Ok-Some.ensures.line
 
 pub returns-clause-line : goal.returns-clause-line
 returns-clause-line g c =
     let t = trial c.args.self.now in
-    let f = c.in-Err-is_expected.unread in
+    let f = c.in-Err-difference_of_refusal.unread in
     unread f (subst (λ (h : Held). TellsNoText h (file t (codes ".err")) f) c.in-Err.ensures.keeps
-    c.in-Err-is_expected.ensures.why) c.in_ok-failed-in-Err-is_expected.ensures.line
+    c.in-Err-difference_of_refusal.ensures.why) c.in_ok-failed-in-Err-difference_of_refusal.ensures.line
