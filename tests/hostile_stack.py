@@ -1,6 +1,7 @@
 """Commands with little stack: deep and long programs, long runs, and explanations of what is wrong in them."""
 
-SMALL_STACK = 512 * 1024
+# 99 brackets inside one another need 500 to 528 KB, depending on the machine.
+SMALL_STACK = 576 * 1024
 # What needs many steps or tasks.
 LARGE = ["--steps", "1000000000", "--tasks", "1048576"]
 
